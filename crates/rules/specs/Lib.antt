@@ -1,0 +1,13 @@
+pub mod Slots
+pub mod Lines
+pub mod Subscription
+pub mod Relaxation
+pub mod Decisions
+pub mod Joined
+pub mod KnownBefore
+pub mod Forced
+pub mod Limits
+pub mod Sequence
+pub mod Best
+pub mod Results
+pub mod laws

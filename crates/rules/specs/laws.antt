@@ -1,0 +1,16 @@
+pub mod Tests
+pub mod Slots
+pub mod Sums
+pub mod Joined
+pub mod BySlot
+pub mod Forced
+pub mod Computed
+pub mod OpenItems
+pub mod Bounds
+pub mod Limits
+pub mod Decisions
+pub mod OnSlots
+pub mod ForcedList
+pub mod Contradiction
+pub mod OpenChoices
+pub mod LimitsHold

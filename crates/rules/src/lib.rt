@@ -1,0 +1,1 @@
+// The rules are definitions and laws, in `specs/`. Code stands in the crates above.

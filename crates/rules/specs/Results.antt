@@ -109,9 +109,13 @@ numbers-in-sequence s r = map (subscription s .number) (placed (subscription s .
 unfoldable pub sequence-of-choice : Lines → List Bool → Option (List ℕ)
 sequence-of-choice s r = cond (is-consistent s r) (some (numbers-in-sequence s r)) none
 
+abbrev pub sequence-if-full : Lines → Option (List Bool) → Option (List ℕ)
+sequence-if-full s none = none
+sequence-if-full s (some r) = sequence-of-choice s r
+
 -- A sequence exactly for a full decision that is a consistent relaxation.
 unfoldable pub sequence-of : Lines → List Decision → Option (List ℕ)
-sequence-of s d = elim (full-choice d) [ none ↦ none | some r ↦ sequence-of-choice s r ]
+sequence-of s d = sequence-if-full s (full-choice d)
 
 -- ---- the answer at tolerance 0
 abbrev pub with-item : Bool → Option (List Bool) → Option (List Bool)

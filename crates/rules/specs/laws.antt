@@ -14,3 +14,8 @@ pub mod ForcedList
 pub mod Contradiction
 pub mod OpenChoices
 pub mod LimitsHold
+pub mod Relaxation
+pub mod Without
+pub mod Placing
+pub mod Ordered
+pub mod Sequence

@@ -34,7 +34,8 @@ pub record DecidedBySlot : Type 0 where
 unfoldable pub decided-by-slot : Lines → List Decision → DecidedBySlot
 decided-by-slot s d = record {
   option = λ i. getD (take (length (s .options)) d) i Open;
-  ordering = λ u. getD (drop (length (s .options)) d) u Open }
+  ordering = λ u. getD (drop (length (s .options)) d) u Open;
+}
 
 -- A decision allows an item to be kept (true) or dropped (false).
 abbrev pub fits : Decision → Bool → Type 0

@@ -53,8 +53,8 @@ module _ (v : Subscription) (d : DecidedBySlot) where
 -- The decision list after forcing.
 unfoldable pub forced : Lines → List Decision → List Decision
 forced s d =
-  list-of (length (s .options)) (forced-option (subscription s) (decided-by-slot s d))
-  ++ list-of (length (s .orderings)) (forced-ordering (subscription s) (decided-by-slot s d))
+    list-of (length (s .options)) (forced-option (subscription s) (decided-by-slot s d))
+    ++ list-of (length (s .orderings)) (forced-ordering (subscription s) (decided-by-slot s d))
 
 -- "Forced decisions are made until none is left": no rule says more than what the list holds.
 pub record NoneLeft (s : Lines) (d : List Decision) : Type 0 where

@@ -11,3 +11,4 @@ pub mod Sequence
 pub mod Best
 pub mod Results
 pub mod laws
+pub mod Cases

@@ -18,7 +18,8 @@ pub record KeptBySlot : Type 0 where
 unfoldable pub kept-by-slot : Lines → List Bool → KeptBySlot
 kept-by-slot s r = record {
   option = λ i. getD (take (length (s .options)) r) i false;
-  ordering = λ u. getD (drop (length (s .options)) r) u false }
+  ordering = λ u. getD (drop (length (s .options)) r) u false;
+}
 
 module _ (v : Subscription) (c : KeptBySlot) where
   -- "Its graph has the kept options, the catalogue precedences between kept options (each X line as two), and the kept orderings."

@@ -38,26 +38,34 @@ pub record Limits : Type 0 where
 module _ (v : Subscription) (d : DecidedBySlot) where
   unfoldable pub option-limit : ℕ → Limit
   option-limit i = cond (option-open v d i)
-    (record { kept-lower = option-kept-lower v d i; kept-upper = option-kept-upper v d i; dropped-lower = option-dropped-lower v d i; dropped-upper = option-dropped-upper v d i })
-    no-limit
+      (record { kept-lower = option-kept-lower v d i; kept-upper = option-kept-upper v d i; dropped-lower = option-dropped-lower v d i; dropped-upper = option-dropped-upper v d i })
+      no-limit
 
   unfoldable pub ordering-limit : ℕ → Limit
   ordering-limit u = cond (ordering-open v d u)
-    (record { kept-lower = ordering-kept-lower v d u; kept-upper = ordering-kept-upper v d u; dropped-lower = ordering-dropped-lower v d u; dropped-upper = ordering-dropped-upper v d u })
-    no-limit
+      (record { kept-lower = ordering-kept-lower v d u; kept-upper = ordering-kept-upper v d u; dropped-lower = ordering-dropped-lower v d u; dropped-upper = ordering-dropped-upper v d u })
+      no-limit
 
 -- A contradiction: "its decisions are then all open and its limits all zero."
 abbrev pub contradictory : Lines → Limits
 contradictory s = record {
-  contradiction = true; decisions = all-open (items s); lower = 0; upper = 0;
-  options = replicate (length (s .options)) no-limit; orderings = replicate (length (s .orderings)) no-limit }
+  contradiction = true;
+  decisions = all-open (items s);
+  lower = 0;
+  upper = 0;
+  options = replicate (length (s .options)) no-limit;
+  orderings = replicate (length (s .orderings)) no-limit;
+}
 
 abbrev pub limited : Lines → List Decision → Limits
 limited s d = record {
-  contradiction = false; decisions = forced s d;
-  lower = whole-lower (subscription s) (decided-by-slot s d); upper = whole-upper (subscription s) (decided-by-slot s d);
+  contradiction = false;
+  decisions = forced s d;
+  lower = whole-lower (subscription s) (decided-by-slot s d);
+  upper = whole-upper (subscription s) (decided-by-slot s d);
   options = list-of (length (s .options)) (option-limit (subscription s) (decided-by-slot s d));
-  orderings = list-of (length (s .orderings)) (ordering-limit (subscription s) (decided-by-slot s d)) }
+  orderings = list-of (length (s .orderings)) (ordering-limit (subscription s) (decided-by-slot s d));
+}
 
 unfoldable pub limits-of : Lines → List Decision → Limits
 limits-of s d = cond (contradiction (subscription s) (decided-by-slot s d)) (contradictory s) (limited s d)
@@ -132,8 +140,8 @@ better-of worth (some a) (some b) = cond (leb (worth b) (worth a)) (some a) (som
 unfoldable pub first-best : ℕ → (List Bool → Bool) → (List Bool → ℕ) → Option (List Bool)
 first-best zero ok worth = cond (ok []) (some []) none
 first-best (suc n) ok worth = better-of worth
-  (with-item true (first-best n (λ r. ok (true ∷ r)) (λ r. worth (true ∷ r))))
-  (with-item false (first-best n (λ r. ok (false ∷ r)) (λ r. worth (false ∷ r))))
+    (with-item true (first-best n (λ r. ok (true ∷ r)) (λ r. worth (true ∷ r))))
+    (with-item false (first-best n (λ r. ok (false ∷ r)) (λ r. worth (false ∷ r))))
 
 abbrev or-nothing : Option (List Bool) → List Bool
 or-nothing none = []

@@ -10,12 +10,12 @@ use Rattle.rules.specs.Lines.{Lines, OptionLine, OrderingLine, catalogue
 pub record Subscription : Type 0 where
   pub option-count : ℕ
   pub ordering-count : ℕ
-  pub number : ℕ → ℕ -- an option's catalogue number
-  pub weight : ℕ → ℕ -- an option's weight
-  pub first : ℕ → ℕ -- the slot of the option that an ordering puts first
-  pub second : ℕ → ℕ -- the slot of its second option
+  pub number : ℕ → ℕ  -- an option's catalogue number
+  pub weight : ℕ → ℕ  -- an option's weight
+  pub first : ℕ → ℕ  -- the slot of the option that an ordering puts first
+  pub second : ℕ → ℕ  -- the slot of its second option
   pub ordering-weight : ℕ → ℕ
-  pub before : ℕ → ℕ → Bool -- the catalogue puts one slot's option before another's
+  pub before : ℕ → ℕ → Bool  -- the catalogue puts one slot's option before another's
 
 abbrev no-option : OptionLine
 no-option = record { number = 0; weight = 0 }
@@ -32,7 +32,8 @@ subscription s = record {
   first = λ u. slot-of (getD (s .orderings) u no-ordering .first) (s .options);
   second = λ u. slot-of (getD (s .orderings) u no-ordering .second) (s .options);
   ordering-weight = λ u. getD (s .orderings) u no-ordering .weight;
-  before = λ i j. catalogue-puts-before (s .catalogue) (getD (s .options) i no-option .number) (getD (s .options) j no-option .number) }
+  before = λ i j. catalogue-puts-before (s .catalogue) (getD (s .options) i no-option .number) (getD (s .options) j no-option .number);
+}
 
 -- Options and orderings together.
 abbrev pub items : Lines → ℕ

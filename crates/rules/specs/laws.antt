@@ -19,3 +19,7 @@ pub mod Without
 pub mod Placing
 pub mod Ordered
 pub mod Sequence
+pub mod Tie
+pub mod Best
+pub mod Proper
+pub mod search

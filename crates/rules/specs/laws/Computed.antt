@@ -24,10 +24,11 @@ module _ (v : Subscription) (d : DecidedBySlot) where
       at : (u : ℕ) → T (is-kept (d .ordering u)) → T (eqb (v .first u) i) ⊎ T (eqb (v .second u) i) → OptionKept v d i
       at u k (inl e) = OptionKept.first-of u k (eqb→eq _ _ e)
       at u k (inr e) = OptionKept.second-of u k (eqb→eq _ _ e)
+
       go : T (is-kept (d .option i)) ⊎ T (some-below (v .ordering-count) (λ u. is-kept (d .ordering u) && touches v u i)) → OptionKept v d i
       go (inl k) = OptionKept.given k
       go (inr s) = let (u, l, w) = some-out (v .ordering-count) _ s in
-        at u (and-l (is-kept (d .ordering u)) _ w) (or-e (eqb (v .first u) i) _ (and-r (is-kept (d .ordering u)) _ w))
+          at u (and-l (is-kept (d .ordering u)) _ w) (or-e (eqb (v .first u) i) _ (and-r (is-kept (d .ordering u)) _ w))
 
   pub known-from-the-start-out : (i j : ℕ) → T (known-from-the-start v d i j) → KnownFromTheStart v d i j
   unfolding known-from-the-start ordering-kept
@@ -36,8 +37,8 @@ module _ (v : Subscription) (d : DecidedBySlot) where
       go : T (v .before i j) ⊎ T (some-below (v .ordering-count) (λ u. is-kept (d .ordering u) && puts-first v u i j)) → KnownFromTheStart v d i j
       go (inl k) = KnownFromTheStart.catalogue k
       go (inr s) = let (u, l, w) = some-out (v .ordering-count) _ s in
-        let a = and-r (is-kept (d .ordering u)) _ w in
-        KnownFromTheStart.kept-ordering u (and-l (is-kept (d .ordering u)) _ w) (eqb→eq _ _ (and-l (eqb (v .first u) i) _ a)) (eqb→eq _ _ (and-r (eqb (v .first u) i) _ a))
+          let a = and-r (is-kept (d .ordering u)) _ w in
+          KnownFromTheStart.kept-ordering u (and-l (is-kept (d .ordering u)) _ w) (eqb→eq _ _ (and-l (eqb (v .first u) i) _ a)) (eqb→eq _ _ (and-r (eqb (v .first u) i) _ a))
 
   pub known-before-out : (i j : ℕ) → T (known-before v d i j) → KnownBefore v d i j
   unfolding known-before
@@ -49,11 +50,13 @@ module _ (v : Subscription) (d : DecidedBySlot) where
     where
       round : T (some-below (v .option-count) (λ j. option-kept v d j && (known-before v d i j && known-before v d j i))) → OptionDropped v d i
       round s = let (j, l, w) = some-out (v .option-count) _ s in
-        let a = and-r (option-kept v d j) _ w in
-        OptionDropped.before-and-after-a-kept-option j (option-kept-out j (and-l (option-kept v d j) _ w)) (known-before-out i j (and-l (known-before v d i j) _ a)) (known-before-out j i (and-r (known-before v d i j) _ a))
+          let a = and-r (option-kept v d j) _ w in
+          OptionDropped.before-and-after-a-kept-option j (option-kept-out j (and-l (option-kept v d j) _ w)) (known-before-out i j (and-l (known-before v d i j) _ a)) (known-before-out j i (and-r (known-before v d i j) _ a))
+
       go₂ : T (known-before v d i i) ⊎ T (some-below (v .option-count) (λ j. option-kept v d j && (known-before v d i j && known-before v d j i))) → OptionDropped v d i
       go₂ (inl k) = OptionDropped.before-itself (known-before-out i i k)
       go₂ (inr s) = round s
+
       go : T (is-dropped (d .option i)) ⊎ T (known-before v d i i || some-below (v .option-count) (λ j. option-kept v d j && (known-before v d i j && known-before v d j i))) → OptionDropped v d i
       go (inl k) = OptionDropped.given k
       go (inr s) = go₂ (or-e (known-before v d i i) _ s)
@@ -65,9 +68,11 @@ module _ (v : Subscription) (d : DecidedBySlot) where
       g₃ : T (option-dropped v d (v .second u)) ⊎ T (known-before v d (v .second u) (v .first u)) → OrderingDropped v d u
       g₃ (inl s) = OrderingDropped.second-dropped (option-dropped-out _ s)
       g₃ (inr s) = OrderingDropped.known-the-other-way (known-before-out _ _ s)
+
       g₂ : T (option-dropped v d (v .first u)) ⊎ T (option-dropped v d (v .second u) || known-before v d (v .second u) (v .first u)) → OrderingDropped v d u
       g₂ (inl s) = OrderingDropped.first-dropped (option-dropped-out _ s)
       g₂ (inr s) = g₃ (or-e (option-dropped v d (v .second u)) _ s)
+
       g₁ : T (is-dropped (d .ordering u)) ⊎ T (option-dropped v d (v .first u) || (option-dropped v d (v .second u) || known-before v d (v .second u) (v .first u))) → OrderingDropped v d u
       g₁ (inl s) = OrderingDropped.given s
       g₁ (inr s) = g₂ (or-e (option-dropped v d (v .first u)) _ s)
@@ -78,9 +83,9 @@ module _ (v : Subscription) (d : DecidedBySlot) where
     unfolding option-kept ordering-kept
     option-kept-in i (OptionKept.given t) = or-l (is-kept (d .option i)) _ t
     option-kept-in i (OptionKept.first-of u t e) = or-r (is-kept (d .option i)) _ (some-in (v .ordering-count) _ u (fit .ordering u t)
-      (and-i (is-kept (d .ordering u)) _ t (or-l (eqb (v .first u) i) _ (subst (λ z. T (eqb (v .first u) z)) e (eqb-refl (v .first u))))))
+        (and-i (is-kept (d .ordering u)) _ t (or-l (eqb (v .first u) i) _ (subst (λ z. T (eqb (v .first u) z)) e (eqb-refl (v .first u))))))
     option-kept-in i (OptionKept.second-of u t e) = or-r (is-kept (d .option i)) _ (some-in (v .ordering-count) _ u (fit .ordering u t)
-      (and-i (is-kept (d .ordering u)) _ t (or-r (eqb (v .first u) i) _ (subst (λ z. T (eqb (v .second u) z)) e (eqb-refl (v .second u))))))
+        (and-i (is-kept (d .ordering u)) _ t (or-r (eqb (v .first u) i) _ (subst (λ z. T (eqb (v .second u) z)) e (eqb-refl (v .second u))))))
 
     pub option-kept-bound : (i : ℕ) → OptionKept v d i → i < v .option-count
     option-kept-bound i (OptionKept.given t) = fit .option i t
@@ -91,7 +96,7 @@ module _ (v : Subscription) (d : DecidedBySlot) where
     unfolding known-from-the-start ordering-kept
     known-from-the-start-in i j (KnownFromTheStart.catalogue t) = or-l (v .before i j) _ t
     known-from-the-start-in i j (KnownFromTheStart.kept-ordering u t e f) = or-r (v .before i j) _ (some-in (v .ordering-count) _ u (fit .ordering u t)
-      (and-i (is-kept (d .ordering u)) _ t (and-i (eqb (v .first u) i) _ (subst (λ z. T (eqb (v .first u) z)) e (eqb-refl (v .first u))) (subst (λ z. T (eqb (v .second u) z)) f (eqb-refl (v .second u))))))
+        (and-i (is-kept (d .ordering u)) _ t (and-i (eqb (v .first u) i) _ (subst (λ z. T (eqb (v .first u) z)) e (eqb-refl (v .first u))) (subst (λ z. T (eqb (v .second u) z)) f (eqb-refl (v .second u))))))
 
     pub known-before-in : (i j : ℕ) → KnownBefore v d i j → T (known-before v d i j)
     unfolding known-before
@@ -115,7 +120,8 @@ module _ (v : Subscription) (d : DecidedBySlot) where
     unfolding contradiction ordering-kept
     no-contradiction-out t = record {
       option = λ i k h. T-not (contradiction v d) t (or-l (some-below (v .option-count) (λ i. option-kept v d i && option-dropped v d i)) _ (some-in (v .option-count) _ i (option-kept-bound i k) (and-i (option-kept v d i) _ (option-kept-in i k) (option-dropped-in i h))));
-      ordering = λ u k h. T-not (contradiction v d) t (or-r (some-below (v .option-count) (λ i. option-kept v d i && option-dropped v d i)) _ (some-in (v .ordering-count) _ u (fit .ordering u k) (and-i (is-kept (d .ordering u)) _ k (ordering-dropped-in u h)))) }
+      ordering = λ u k h. T-not (contradiction v d) t (or-r (some-below (v .option-count) (λ i. option-kept v d i && option-dropped v d i)) _ (some-in (v .ordering-count) _ u (fit .ordering u k) (and-i (is-kept (d .ordering u)) _ k (ordering-dropped-in u h))));
+    }
 
   pub no-contradiction-in : NoContradiction v d → T (not (contradiction v d))
   unfolding contradiction ordering-kept

@@ -39,7 +39,7 @@ module _ (s : Lines) (d : List Decision) where
   -- Where something consistent agrees, nothing contradicts.
   pub agreeing-no-contradiction : (r : List Bool) → ConsistentRelaxation s r → Agrees d r → T (not (limits-of s d .contradiction))
   agreeing-no-contradiction r ok a = subst (λ b. T (not b)) (sym (contradiction-told s d))
-    (no-contradiction-in (subscription s) (decided-by-slot s d) (no-contradiction (subscription s) (decided-by-slot s d) (kept-by-slot s r) (consistent-by-slot s r ok) (agrees-by-slot s d r a)))
+      (no-contradiction-in (subscription s) (decided-by-slot s d) (no-contradiction (subscription s) (decided-by-slot s d) (kept-by-slot s r) (consistent-by-slot s r ok) (agrees-by-slot s d r a)))
 
 module _ (s : Lines) (ps : Proper s) (d : List Decision) (size : length d ≡ items s) where
   pub fine-from : T (not (limits-of s d .contradiction)) → NoContradiction (subscription s) (decided-by-slot s d)
@@ -52,4 +52,4 @@ module _ (s : Lines) (ps : Proper s) (d : List Decision) (size : length d ≡ it
       go : ((r : List Bool) → ConsistentRelaxation s r → Agrees d r → ⊥) → T (limits-of s d .contradiction) ⊎ (T (limits-of s d .contradiction) → ⊥) → T (limits-of s d .contradiction)
       go none (inl t) = t
       go none (inr n) = let fine = fine-from (not-T (limits-of s d .contradiction) n) in
-        absurd (none (just-the-kept (forced s d)) (least-is-consistent s ps d size fine) (forced-agrees s ps d size fine (just-the-kept (forced s d)) (just-the-kept-agrees (forced s d))))
+          absurd (none (just-the-kept (forced s d)) (least-is-consistent s ps d size fine) (forced-agrees s ps d size fine (just-the-kept (forced s d)) (just-the-kept-agrees (forced s d))))

@@ -35,12 +35,13 @@ module _ (v : Subscription) (d : DecidedBySlot) where
     drops-dropped-ordering u (OrderingDropped.first-dropped h) k = drops-dropped (v .first u) h (ok .ends u k .0)
     drops-dropped-ordering u (OrderingDropped.second-dropped h) k = drops-dropped (v .second u) h (ok .ends u k .1)
     drops-dropped-ordering u (OrderingDropped.known-the-other-way p) k =
-      ok .acyclic (v .second u) (append (known-path p (ok .ends u k .1) (ok .ends u k .0)) (one (by-ordering u k refl refl)))
+        ok .acyclic (v .second u) (append (known-path p (ok .ends u k .1) (ok .ends u k .0)) (one (by-ordering u k refl refl)))
 
     pub no-contradiction : NoContradiction v d
     no-contradiction = record {
       option = λ i k h. drops-dropped i h (keeps-kept i k);
-      ordering = λ u k h. drops-dropped-ordering u h (ag .keeps-ordering u k) }
+      ordering = λ u k h. drops-dropped-ordering u h (ag .keeps-ordering u k);
+    }
 
   -- ---- the least relaxation: `keeps` tells exactly which options are kept
   module _ (keeps : ℕ → Bool) (keeps-out : (i : ℕ) → T (keeps i) → OptionKept v d i) (keeps-in : (i : ℕ) → OptionKept v d i → T (keeps i))
@@ -54,16 +55,18 @@ module _ (v : Subscription) (d : DecidedBySlot) where
     path-known (one {i = i} (by-ordering u t e f)) = (base (KnownFromTheStart.kept-ordering u t e f), keeps-in i (OptionKept.first-of u t e))
     path-known (more {j = j} (by-catalogue t a b) p) = (join (base (KnownFromTheStart.catalogue t)) (keeps-out j b) (path-known p .0), a)
     path-known (more {i = i} (by-ordering u t e f) p) =
-      (join (base (KnownFromTheStart.kept-ordering u t e f)) (OptionKept.second-of u t f) (path-known p .0), keeps-in i (OptionKept.first-of u t e))
+        (join (base (KnownFromTheStart.kept-ordering u t e f)) (OptionKept.second-of u t f) (path-known p .0), keeps-in i (OptionKept.first-of u t e))
 
     pub least-consistent : ConsistentBySlot v least
     least-consistent = record {
       ends = λ u t. (keeps-in (v .first u) (OptionKept.first-of u t refl), keeps-in (v .second u) (OptionKept.second-of u t refl));
-      acyclic = λ i p. let (k, t) = path-known p in fine .option i (keeps-out i t) (OptionDropped.before-itself k) }
+      acyclic = λ i p. let (k, t) = path-known p in fine .option i (keeps-out i t) (OptionDropped.before-itself k);
+    }
 
     pub least-agrees : AgreesBySlot d least
     least-agrees = record {
       keeps-option = λ i t. keeps-in i (OptionKept.given t);
       drops-option = λ i t. not-T (keeps i) (λ k. fine .option i (keeps-out i k) (OptionDropped.given t));
       keeps-ordering = λ u t. t;
-      drops-ordering = λ u t. not-T (is-kept (d .ordering u)) (λ k. fine .ordering u k (OrderingDropped.given t)) }
+      drops-ordering = λ u t. not-T (is-kept (d .ordering u)) (λ k. fine .ordering u k (OrderingDropped.given t));
+    }

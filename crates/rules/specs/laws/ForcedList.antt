@@ -84,7 +84,7 @@ module _ (s : Lines) (ps : Proper s) (d : List Decision) (size : length d ≡ it
   -- ---- what the list holds is what the rules say
   pub option-kept-is-told : (i : ℕ) → T (is-kept (b′ .option i)) → OptionKept v b i
   option-kept-is-told i t = option-kept-out v b i (kept-from (option-kept v b i) (option-dropped v b i)
-    (subst (λ w. T (is-kept w)) (forced-option-at i (option-on-the-sheet s (forced s d) forced-length is-kept (λ z. z) i t)) t))
+      (subst (λ w. T (is-kept w)) (forced-option-at i (option-on-the-sheet s (forced s d) forced-length is-kept (λ z. z) i t)) t))
 
   pub told-option-is-kept : (i : ℕ) → OptionKept v b i → T (is-kept (b′ .option i))
   unfolding subscription
@@ -93,7 +93,7 @@ module _ (s : Lines) (ps : Proper s) (d : List Decision) (size : length d ≡ it
   pub ordering-kept-is-told : (u : ℕ) → OrderingKept v b′ u → OrderingKept v b u
   unfolding ordering-kept
   ordering-kept-is-told u t = kept-from (ordering-kept v b u) (ordering-dropped v b u)
-    (subst (λ w. T (is-kept w)) (forced-ordering-at u (ordering-on-the-sheet s (forced s d) forced-length is-kept (λ z. z) u t)) t)
+      (subst (λ w. T (is-kept w)) (forced-ordering-at u (ordering-on-the-sheet s (forced s d) forced-length is-kept (λ z. z) u t)) t)
 
   pub told-ordering-is-kept : (u : ℕ) → OrderingKept v b u → OrderingKept v b′ u
   unfolding ordering-kept subscription
@@ -101,24 +101,27 @@ module _ (s : Lines) (ps : Proper s) (d : List Decision) (size : length d ≡ it
 
   pub option-dropped-is-told : (i : ℕ) → T (is-dropped (b′ .option i)) → OptionDropped v b i
   option-dropped-is-told i t = option-dropped-out v b i (dropped-from (option-kept v b i) (option-dropped v b i)
-    (subst (λ w. T (is-dropped w)) (forced-option-at i (option-on-the-sheet s (forced s d) forced-length is-dropped (λ z. z) i t)) t))
+      (subst (λ w. T (is-dropped w)) (forced-option-at i (option-on-the-sheet s (forced s d) forced-length is-dropped (λ z. z) i t)) t))
 
   pub ordering-dropped-is-told : (u : ℕ) → T (is-dropped (b′ .ordering u)) → OrderingDropped v b u
   ordering-dropped-is-told u t = ordering-dropped-out v b u (dropped-from (ordering-kept v b u) (ordering-dropped v b u)
-    (subst (λ w. T (is-dropped w)) (forced-ordering-at u (ordering-on-the-sheet s (forced s d) forced-length is-dropped (λ z. z) u t)) t))
+      (subst (λ w. T (is-dropped w)) (forced-ordering-at u (ordering-on-the-sheet s (forced s d) forced-length is-dropped (λ z. z) u t)) t))
 
   -- EVERY CONSISTENT RELAXATION that agrees with the decisions agrees with the forced ones.
   pub agrees-with-forced : (r : List Bool) → ConsistentRelaxation s r → Agrees d r → Agrees (forced s d) r
   agrees-with-forced r ok a = agrees-from-slots s (forced s d) r (forced-length ∙ sym (ok .relaxation .size)) (record {
-      keeps-option = λ i t. keeps-kept v b c cs ag i (option-kept-is-told i t);
-      drops-option = λ i t. not-T (c .option i) (drops-dropped v b c cs ag i (option-dropped-is-told i t));
-      keeps-ordering = λ u t. ag .keeps-ordering u (ordering-kept-is-told u t);
-      drops-ordering = λ u t. not-T (c .ordering u) (drops-dropped-ordering v b c cs ag u (ordering-dropped-is-told u t)) })
+    keeps-option = λ i t. keeps-kept v b c cs ag i (option-kept-is-told i t);
+    drops-option = λ i t. not-T (c .option i) (drops-dropped v b c cs ag i (option-dropped-is-told i t));
+    keeps-ordering = λ u t. ag .keeps-ordering u (ordering-kept-is-told u t);
+    drops-ordering = λ u t. not-T (c .ordering u) (drops-dropped-ordering v b c cs ag u (ordering-dropped-is-told u t));
+  })
     where
       c : KeptBySlot
       c = kept-by-slot s r
+
       cs : ConsistentBySlot v c
       cs = consistent-by-slot s r ok
+
       ag : AgreesBySlot b c
       ag = agrees-by-slot s d r a
 
@@ -126,20 +129,21 @@ module _ (s : Lines) (ps : Proper s) (d : List Decision) (size : length d ≡ it
   module _ (fine : NoContradiction v b) where
     told-option-is-dropped : (i : ℕ) → i < n → OptionDropped v b i → T (is-dropped (b′ .option i))
     told-option-is-dropped i l h = subst (λ w. T (is-dropped w)) (sym (forced-option-at i l))
-      (dropped-to (option-kept v b i) (option-dropped v b i) (λ k. fine .option i (option-kept-out v b i k) h) (option-dropped-in v b on i h))
+        (dropped-to (option-kept v b i) (option-dropped v b i) (λ k. fine .option i (option-kept-out v b i k) h) (option-dropped-in v b on i h))
 
     told-ordering-is-dropped : (u : ℕ) → u < m → OrderingDropped v b u → T (is-dropped (b′ .ordering u))
     unfolding ordering-kept
     told-ordering-is-dropped u l h = subst (λ w. T (is-dropped w)) (sym (forced-ordering-at u l))
-      (dropped-to (ordering-kept v b u) (ordering-dropped v b u) (λ k. fine .ordering u k h) (ordering-dropped-in v b on u h))
+        (dropped-to (ordering-kept v b u) (ordering-dropped v b u) (λ k. fine .ordering u k h) (ordering-dropped-in v b on u h))
 
     -- What agrees with the forced decisions agrees with the decisions.
     pub forced-agrees : (r : List Bool) → Agrees (forced s d) r → Agrees d r
     forced-agrees r a = agrees-from-slots s d r (size ∙ sym forced-length ∙ agrees-length (forced s d) r a) (record {
-        keeps-option = λ i t. ag .keeps-option i (told-option-is-kept i (OptionKept.given t));
-        drops-option = λ i t. ag .drops-option i (told-option-is-dropped i (option-on-the-sheet s d size is-dropped (λ z. z) i t) (OptionDropped.given t));
-        keeps-ordering = λ u t. ag .keeps-ordering u (told-ordering-is-kept u t);
-        drops-ordering = λ u t. ag .drops-ordering u (told-ordering-is-dropped u (ordering-on-the-sheet s d size is-dropped (λ z. z) u t) (OrderingDropped.given t)) })
+      keeps-option = λ i t. ag .keeps-option i (told-option-is-kept i (OptionKept.given t));
+      drops-option = λ i t. ag .drops-option i (told-option-is-dropped i (option-on-the-sheet s d size is-dropped (λ z. z) i t) (OptionDropped.given t));
+      keeps-ordering = λ u t. ag .keeps-ordering u (told-ordering-is-kept u t);
+      drops-ordering = λ u t. ag .drops-ordering u (told-ordering-is-dropped u (ordering-on-the-sheet s d size is-dropped (λ z. z) u t) (OrderingDropped.given t));
+    })
       where
         ag : AgreesBySlot b′ (kept-by-slot s r)
         ag = agrees-by-slot s (forced s d) r a
@@ -155,10 +159,11 @@ module _ (s : Lines) (ps : Proper s) (d : List Decision) (size : length d ≡ it
       where
         option : (i : ℕ) → i < length (take n d) → T (is-open (b′ .option i)) → T (is-open (b .option i))
         option i l t = let k = length-take n d in let o = open-from (option-kept v b i) (option-dropped v b i) (subst (λ w. T (is-open w)) (forced-option-at i (omega arith)) t) in
-          not-decided-is-open (b .option i) (λ h. o .0 (option-kept-in v b on i (OptionKept.given h))) (λ h. o .1 (option-dropped-in v b on i (OptionDropped.given h)))
+            not-decided-is-open (b .option i) (λ h. o .0 (option-kept-in v b on i (OptionKept.given h))) (λ h. o .1 (option-dropped-in v b on i (OptionDropped.given h)))
+
         ordering : (u : ℕ) → u < length (drop n d) → T (is-open (b′ .ordering u)) → T (is-open (b .ordering u))
         ordering u l t = let k = length-drop n d in let o = open-from (ordering-kept v b u) (ordering-dropped v b u) (subst (λ w. T (is-open w)) (forced-ordering-at u (omega arith)) t) in
-          not-decided-is-open (b .ordering u) (λ h. o .0 h) (λ h. o .1 (ordering-dropped-in v b on u (OrderingDropped.given h)))
+            not-decided-is-open (b .ordering u) (λ h. o .0 h) (λ h. o .1 (ordering-dropped-in v b on u (OrderingDropped.given h)))
 
     -- Keeping just the kept is a consistent relaxation, and it agrees.
     pub least-is-consistent : ConsistentRelaxation s (just-the-kept (forced s d))
@@ -168,10 +173,12 @@ module _ (s : Lines) (ps : Proper s) (d : List Decision) (size : length d ≡ it
       where
         option : (i : ℕ) → kept-by-slot s (just-the-kept (forced s d)) .option i ≡ option-kept v b i
         option i = ap (λ l. getD l i false) (take-just-the-kept n (forced s d)) ∙ just-the-kept-at (take n (forced s d)) i
-          ∙ bool-ext (is-kept (b′ .option i)) (option-kept v b i) (λ t. option-kept-in v b on i (option-kept-is-told i t)) (λ t. told-option-is-kept i (option-kept-out v b i t))
+            ∙ bool-ext (is-kept (b′ .option i)) (option-kept v b i) (λ t. option-kept-in v b on i (option-kept-is-told i t)) (λ t. told-option-is-kept i (option-kept-out v b i t))
+
         ordering : (u : ℕ) → kept-by-slot s (just-the-kept (forced s d)) .ordering u ≡ is-kept (b .ordering u)
         ordering u = ap (λ l. getD l u false) (drop-just-the-kept n (forced s d)) ∙ just-the-kept-at (drop n (forced s d)) u
-          ∙ bool-ext (is-kept (b′ .ordering u)) (is-kept (b .ordering u)) (ordering-kept-is-told u) (told-ordering-is-kept u)
+            ∙ bool-ext (is-kept (b′ .ordering u)) (is-kept (b .ordering u)) (ordering-kept-is-told u) (told-ordering-is-kept u)
+
         least-by-slot : kept-by-slot s (just-the-kept (forced s d)) ≡ least v b (option-kept v b) (option-kept-out v b) (option-kept-in v b on) fine
         least-by-slot = λ i. record { option = fun-ext option i; ordering = fun-ext ordering i }
 
@@ -204,18 +211,19 @@ module _ (s : Lines) (ps : Proper s) (d : List Decision) (size : length d ≡ it
     none-left = record {
       kept = λ i k. told-option-is-kept i (kept-again i k);
       dropped = λ i l h. told-option-is-dropped i l (dropped-again i h);
-      orderings-dropped = λ u l h. told-ordering-is-dropped u l (ordering-dropped-again u h) }
+      orderings-dropped = λ u l h. told-ordering-is-dropped u l (ordering-dropped-again u h);
+    }
 
     on′ : OnTheSheet v b′
     on′ = on-the-sheet s (forced s d) forced-length ps
 
     option-kept-same : (i : ℕ) → option-kept v b′ i ≡ option-kept v b i
     option-kept-same i = bool-ext (option-kept v b′ i) (option-kept v b i) (λ t. option-kept-in v b on i (kept-again i (option-kept-out v b′ i t)))
-      (λ t. option-kept-in v b′ on′ i (OptionKept.given (told-option-is-kept i (option-kept-out v b i t))))
+        (λ t. option-kept-in v b′ on′ i (OptionKept.given (told-option-is-kept i (option-kept-out v b i t))))
 
     option-dropped-same : (i : ℕ) → i < n → option-dropped v b′ i ≡ option-dropped v b i
     option-dropped-same i l = bool-ext (option-dropped v b′ i) (option-dropped v b i) (λ t. option-dropped-in v b on i (dropped-again i (option-dropped-out v b′ i t)))
-      (λ t. option-dropped-in v b′ on′ i (OptionDropped.given (told-option-is-dropped i l (option-dropped-out v b i t))))
+        (λ t. option-dropped-in v b′ on′ i (OptionDropped.given (told-option-is-dropped i l (option-dropped-out v b i t))))
 
     ordering-kept-same : (u : ℕ) → ordering-kept v b′ u ≡ ordering-kept v b u
     unfolding ordering-kept
@@ -223,7 +231,7 @@ module _ (s : Lines) (ps : Proper s) (d : List Decision) (size : length d ≡ it
 
     ordering-dropped-same : (u : ℕ) → u < m → ordering-dropped v b′ u ≡ ordering-dropped v b u
     ordering-dropped-same u l = bool-ext (ordering-dropped v b′ u) (ordering-dropped v b u) (λ t. ordering-dropped-in v b on u (ordering-dropped-again u (ordering-dropped-out v b′ u t)))
-      (λ t. ordering-dropped-in v b′ on′ u (OrderingDropped.given (told-ordering-is-dropped u l (ordering-dropped-out v b u t))))
+        (λ t. ordering-dropped-in v b′ on′ u (OrderingDropped.given (told-ordering-is-dropped u l (ordering-dropped-out v b u t))))
 
     -- Forced decisions are a FIXED POINT.
     pub forced-twice : forced s (forced s d) ≡ forced s d

@@ -16,6 +16,7 @@ one-more {B} {K} {K′} c h (join {i = i} {j = j} {k = k} p t q) = mix (one-more
   where
     P : ℕ → ℕ → Type 0
     P = Joined B K
+
     mix : P i j ⊎ (P i c × P c j) → P j k ⊎ (P j c × P c k) → K j ⊎ (j ≡ c) → P i k ⊎ (P i c × P c k)
     mix (inl a) (inl b) (inl m) = inl (join a m b)
     mix (inl a) (inl b) (inr e) = inr (subst (P i) e a, subst (λ x. P x k) e b)
@@ -41,6 +42,7 @@ through-join b (d ∷ ds) i c j p (List·Memᴰ·head e) q = or-r (through b ds 
         pickl : T (through b ds x c) ⊎ T (through b ds x d && through b ds d c) → T (through b ds x d)
         pickl (inl u) = subst (λ z. T (through b ds x z)) e u
         pickl (inr u) = and-l (through b ds x d) _ u
+
     right : (x : ℕ) → T (through b (d ∷ ds) c x) → T (through b ds d x)
     right x t = pickr (or-e (through b ds c x) _ t)
       where
@@ -51,8 +53,10 @@ through-join b (d ∷ ds) i c j p (List·Memᴰ·tail m) q = mix (through-join b
   where
     R : ℕ → ℕ → Bool
     R x y = through b ds x y
+
     F : Type 0
     F = T (R i j || (R i d && R d j))
+
     mix : (T (R i c) → List·Memᴰ c ds → T (R c j) → T (R i j)) → (T (R i c) → List·Memᴰ c ds → T (R c d) → T (R i d)) → (T (R d c) → List·Memᴰ c ds → T (R c j) → T (R d j))
         → T (R i c) ⊎ T (R i d && R d c) → T (R c j) ⊎ T (R c d && R d j) → F
     mix f g h (inl a) (inl z) = or-l (R i j) _ (f a m z)
@@ -71,8 +75,10 @@ module _ (b : ℕ → ℕ → Bool) where
     where
       J : ℕ → ℕ → Type 0
       J = Joined Bᵀ (λ x. List·Memᴰ x cs)
+
       up : {x y : ℕ} → J x y → Joined Bᵀ (λ z. List·Memᴰ z (c ∷ cs)) x y
       up = weaken (λ x y q. q) (λ z m. List·Memᴰ·tail m)
+
       mix : (T (through b cs i j) → J i j) → (T (through b cs i c) → J i c) → (T (through b cs c j) → J c j)
           → T (through b cs i j) ⊎ T (through b cs i c && through b cs c j) → Joined Bᵀ (λ z. List·Memᴰ z (c ∷ cs)) i j
       mix f g h (inl u) = up (f u)

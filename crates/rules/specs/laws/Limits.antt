@@ -88,13 +88,13 @@ module _ (v : Subscription) (d : DecidedBySlot) where
         → value v c + D v d + weight-of v p q ≤ M v d
     unfolding D M
     taken-off p q np nq op oq = upper v c (option-dropped v d) (ordering-dropped v d) p q drops drops-ordering np nq
-      (λ i a h. open-option-not-dropped i a (op i h)) (λ u a h. open-ordering-not-dropped u a (oq u h))
+        (λ i a h. open-option-not-dropped i a (op i h)) (λ u a h. open-ordering-not-dropped u a (oq u h))
 
     -- Open items that c keeps are there, beside what is kept.
     added : (p q : ℕ → Bool) → Within p (c .option) → Within q (c .ordering) → Within p (option-open v d) → Within q (ordering-open v d) → K v d + weight-of v p q ≤ value v c
     unfolding K
     added p q yp yq op oq = lower v c (option-kept v d) (ordering-kept v d) p q keeps keeps-ordering yp yq
-      (λ i k h. open-option-not-kept i k (op i h)) (λ u k h. open-ordering-not-kept u k (oq u h))
+        (λ i k h. open-option-not-kept i k (op i h)) (λ u k h. open-ordering-not-kept u k (oq u h))
 
     -- Options none of which c keeps go with their orderings.
     taken-off-with-orderings : (p : ℕ → Bool) → Apart (c .option) p → value v c + D v d + weight-with-orderings v d p ≤ M v d
@@ -110,8 +110,8 @@ module _ (v : Subscription) (d : DecidedBySlot) where
     keeps-no-clash : (i j : ℕ) → T (c .option i) → T (c .option j) → T (clash v d i j) → ⊥
     unfolding clash
     keeps-no-clash i j a b t =
-      let k = and-r (not (eqb i j)) _ t in
-      ok .acyclic i (append (known-path v d c ok ag (known-before-out v d i j (and-l (known-before v d i j) _ k)) a b)
+        let k = and-r (not (eqb i j)) _ t in
+        ok .acyclic i (append (known-path v d c ok ag (known-before-out v d i j (and-l (known-before v d i j) _ k)) a b)
         (known-path v d c ok ag (known-before-out v d j i (and-r (known-before v d i j) _ k)) b a))
 
     pub whole-lower-holds : K v d ≤ value v c
@@ -123,7 +123,7 @@ module _ (v : Subscription) (d : DecidedBySlot) where
     pub option-kept-lower-holds : (i : ℕ) → i < v .option-count → T (option-open v d i) → T (c .option i) → K v d + v .weight i ≤ value v c
     option-kept-lower-holds i l o t =
         let h = added (λ j. eqb i j) never (λ j e. subst (λ z. T (c .option z)) (eqb→eq i j e) t) (λ u h. absurd h)
-              (λ j e. subst (λ z. T (option-open v d z)) (eqb→eq i j e) o) (λ u h. absurd h) in
+        (λ j e. subst (λ z. T (option-open v d z)) (eqb→eq i j e) o) (λ u h. absurd h) in
         let e = over-one-is i (v .option-count) (v .weight) l in omega arith
 
     pub option-kept-upper-holds : (i : ℕ) → T (c .option i) → value v c + D v d + A v d i ≤ M v d
@@ -145,9 +145,9 @@ module _ (v : Subscription) (d : DecidedBySlot) where
         → K v d + v .ordering-weight w + over (v .option-count) (v .weight) (λ j. option-open v d j && touches v w j) ≤ value v c
     ordering-kept-lower-holds w l o t =
         let h = added (λ j. option-open v d j && touches v w j) (λ u. eqb w u)
-              (λ j h. end j (or-e (eqb (v .first w) j) _ (and-r (option-open v d j) _ h)))
-              (λ u e. subst (λ z. T (c .ordering z)) (eqb→eq w u e) t)
-              (λ j h. and-l (option-open v d j) _ h) (λ u e. subst (λ z. T (ordering-open v d z)) (eqb→eq w u e) o) in
+        (λ j h. end j (or-e (eqb (v .first w) j) _ (and-r (option-open v d j) _ h)))
+        (λ u e. subst (λ z. T (c .ordering z)) (eqb→eq w u e) t)
+        (λ j h. and-l (option-open v d j) _ h) (λ u e. subst (λ z. T (ordering-open v d z)) (eqb→eq w u e) o) in
         let e = over-one-is w (v .ordering-count) (v .ordering-weight) l in omega arith
       where
         end : (j : ℕ) → T (eqb (v .first w) j) ⊎ T (eqb (v .second w) j) → T (c .option j)
@@ -165,5 +165,5 @@ module _ (v : Subscription) (d : DecidedBySlot) where
     pub ordering-dropped-upper-holds : (w : ℕ) → w < v .ordering-count → T (ordering-open v d w) → T (not (c .ordering w)) → value v c + D v d + v .ordering-weight w ≤ M v d
     ordering-dropped-upper-holds w l o t =
         let h = taken-off never (λ u. eqb w u) (λ i k h. h) (λ u k e. T-not (c .ordering w) t (subst (λ z. T (c .ordering z)) (sym (eqb→eq w u e)) k))
-              (λ i h. absurd h) (λ u e. subst (λ z. T (ordering-open v d z)) (eqb→eq w u e) o) in
+        (λ i h. absurd h) (λ u e. subst (λ z. T (ordering-open v d z)) (eqb→eq w u e) o) in
         let e = over-one-is w (v .ordering-count) (v .ordering-weight) l in omega arith

@@ -65,7 +65,7 @@ module _ (s : Lines) (ps : Proper s) (d : List Decision) (size : length d ≡ it
   pub whole-limits-hold : Between (limits-of s d .lower) (limits-of s d .upper) (value-of s r)
   unfolding value-of whole-lower whole-upper
   whole-limits-hold = subst (λ l. Between (l .lower) (l .upper) (value-of s r)) (sym told)
-    (let p = whole-lower-holds v b c cs ag in let q = whole-upper-holds v b c cs ag in record { lower = p; upper = omega arith })
+      (let p = whole-lower-holds v b c cs ag in let q = whole-upper-holds v b c cs ag in record { lower = p; upper = omega arith })
 
   -- ---- an open option i, kept and dropped
   module _ (i : ℕ) (l : i < n) (o : T (is-open (getD (limits-of s d .decisions) i Open))) where
@@ -79,14 +79,14 @@ module _ (s : Lines) (ps : Proper s) (d : List Decision) (size : length d ≡ it
     pub option-kept-limits-hold : T (getD r i false) → Between (getD (limits-of s d .options) i no-limit .kept-lower) (getD (limits-of s d .options) i no-limit .kept-upper) (value-of s r)
     unfolding value-of option-kept-lower option-kept-upper subscription kept-by-slot
     option-kept-limits-hold t = subst (λ z. Between (z .kept-lower) (z .kept-upper) (value-of s r)) (sym at-option)
-      (let k = subst T (sym (getD-take n r i false l)) t in let p = option-kept-lower-holds v b c cs ag i l opened k in let q = option-kept-upper-holds v b c cs ag i k in
-      record { lower = p; upper = omega arith })
+        (let k = subst T (sym (getD-take n r i false l)) t in let p = option-kept-lower-holds v b c cs ag i l opened k in let q = option-kept-upper-holds v b c cs ag i k in
+        record { lower = p; upper = omega arith })
 
     pub option-dropped-limits-hold : T (not (getD r i false)) → Between (getD (limits-of s d .options) i no-limit .dropped-lower) (getD (limits-of s d .options) i no-limit .dropped-upper) (value-of s r)
     unfolding value-of option-dropped-lower option-dropped-upper kept-by-slot
     option-dropped-limits-hold t = subst (λ z. Between (z .dropped-lower) (z .dropped-upper) (value-of s r)) (sym at-option)
-      (let k = subst (λ x. T (not x)) (sym (getD-take n r i false l)) t in let p = whole-lower-holds v b c cs ag in let q = option-dropped-upper-holds v b c cs ag i opened k in
-      record { lower = p; upper = omega arith })
+        (let k = subst (λ x. T (not x)) (sym (getD-take n r i false l)) t in let p = whole-lower-holds v b c cs ag in let q = option-dropped-upper-holds v b c cs ag i opened k in
+        record { lower = p; upper = omega arith })
 
   -- ---- an open ordering u, kept and dropped
   module _ (u : ℕ) (l : u < m) (o : T (is-open (getD (limits-of s d .decisions) (n + u) Open))) where
@@ -100,11 +100,11 @@ module _ (s : Lines) (ps : Proper s) (d : List Decision) (size : length d ≡ it
     pub ordering-kept-limits-hold : T (getD r (n + u) false) → Between (getD (limits-of s d .orderings) u no-limit .kept-lower) (getD (limits-of s d .orderings) u no-limit .kept-upper) (value-of s r)
     unfolding value-of ordering-kept-lower ordering-kept-upper subscription kept-by-slot
     ordering-kept-limits-hold t = subst (λ z. Between (z .kept-lower) (z .kept-upper) (value-of s r)) (sym at-ordering)
-      (let k = subst T (sym (getD-drop n r u false)) t in let p = ordering-kept-lower-holds v b c cs ag u l opened-ordering k in let q = ordering-kept-upper-holds v b c cs ag u k in
-      record { lower = p; upper = omega arith })
+        (let k = subst T (sym (getD-drop n r u false)) t in let p = ordering-kept-lower-holds v b c cs ag u l opened-ordering k in let q = ordering-kept-upper-holds v b c cs ag u k in
+        record { lower = p; upper = omega arith })
 
     pub ordering-dropped-limits-hold : T (not (getD r (n + u) false)) → Between (getD (limits-of s d .orderings) u no-limit .dropped-lower) (getD (limits-of s d .orderings) u no-limit .dropped-upper) (value-of s r)
     unfolding value-of ordering-dropped-lower ordering-dropped-upper subscription kept-by-slot
     ordering-dropped-limits-hold t = subst (λ z. Between (z .dropped-lower) (z .dropped-upper) (value-of s r)) (sym at-ordering)
-      (let k = subst (λ x. T (not x)) (sym (getD-drop n r u false)) t in let p = whole-lower-holds v b c cs ag in let q = ordering-dropped-upper-holds v b c cs ag u l opened-ordering k in
-      record { lower = p; upper = omega arith })
+        (let k = subst (λ x. T (not x)) (sym (getD-drop n r u false)) t in let p = whole-lower-holds v b c cs ag in let q = ordering-dropped-upper-holds v b c cs ag u l opened-ordering k in
+        record { lower = p; upper = omega arith })

@@ -25,10 +25,11 @@ module _ (s : Lines) where
   pub agrees-by-slot : (d : List Decision) (r : List Bool) → Agrees d r → AgreesBySlot (decided-by-slot s d) (kept-by-slot s r)
   unfolding decided-by-slot kept-by-slot
   agrees-by-slot d r a = record {
-      keeps-option = agrees-kept (take n d) (take n r) (agrees-take n d r a);
-      drops-option = agrees-dropped (take n d) (take n r) (agrees-take n d r a);
-      keeps-ordering = agrees-kept (drop n d) (drop n r) (agrees-drop n d r a);
-      drops-ordering = agrees-dropped (drop n d) (drop n r) (agrees-drop n d r a) }
+    keeps-option = agrees-kept (take n d) (take n r) (agrees-take n d r a);
+    drops-option = agrees-dropped (take n d) (take n r) (agrees-take n d r a);
+    keeps-ordering = agrees-kept (drop n d) (drop n r) (agrees-drop n d r a);
+    drops-ordering = agrees-dropped (drop n d) (drop n r) (agrees-drop n d r a);
+  }
     where
       n : ℕ
       n = length (s .options)
@@ -51,8 +52,9 @@ module _ (s : Lines) where
   pub kept-on-the-sheet : (r : List Bool) → length r ≡ items s → KeptOnTheSheet (subscription s) (kept-by-slot s r)
   unfolding subscription kept-by-slot
   kept-on-the-sheet r e = record {
-      option = λ i t. let h = inside (λ b. b) false (λ z. z) (take n r) i t in let k = length-take n r in omega arith;
-      ordering = λ u t. let h = inside (λ b. b) false (λ z. z) (drop n r) u t in let k = length-drop n r in omega arith }
+    option = λ i t. let h = inside (λ b. b) false (λ z. z) (take n r) i t in let k = length-take n r in omega arith;
+    ordering = λ u t. let h = inside (λ b. b) false (λ z. z) (drop n r) u t in let k = length-drop n r in omega arith;
+  }
     where
       n : ℕ
       n = length (s .options)
@@ -70,5 +72,8 @@ module _ (s : Lines) where
     pub on-the-sheet : Proper s → OnTheSheet (subscription s) (decided-by-slot s d)
     unfolding subscription
     on-the-sheet ps = record {
-      option = option-on-the-sheet is-kept (λ z. z); ordering = ordering-on-the-sheet is-kept (λ z. z);
-      first = ps .first-subscribed; second = ps .second-subscribed }
+      option = option-on-the-sheet is-kept (λ z. z);
+      ordering = ordering-on-the-sheet is-kept (λ z. z);
+      first = ps .first-subscribed;
+      second = ps .second-subscribed;
+    }

@@ -74,33 +74,33 @@ module _ (s : Lines) (ps : Proper s) (d : List Decision) (size : length d ≡ it
   pub open-option-may-be-kept : (i : ℕ) → i < n → T (is-open (getD (forced s d) i Open)) → T (not (limits-of s (set d i Kept) .contradiction))
   unfolding decided-by-slot
   open-option-may-be-kept i l o = untold (set d i Kept) (keep-option v b (decided-by-slot s (set d i Kept)) (fine-from s ps d size fine) i
-    (λ h. open-option s ps d size i l o .1 (option-dropped-in v b (on-the-sheet s d size ps) i h))
-    (via-grows is-kept i (take n d) _ _ (take-set-lt n d i Kept l) (set-grows is-kept (take n d) i Kept))
-    (via is-dropped (take n d) _ _ (take-set-lt n d i Kept l) (set-stays is-dropped (take n d) i Kept (λ z. z)))
-    (same is-kept (drop n d) _ (drop-set-lt n d i Kept l)) (same is-dropped (drop n d) _ (drop-set-lt n d i Kept l)))
+      (λ h. open-option s ps d size i l o .1 (option-dropped-in v b (on-the-sheet s d size ps) i h))
+      (via-grows is-kept i (take n d) _ _ (take-set-lt n d i Kept l) (set-grows is-kept (take n d) i Kept))
+      (via is-dropped (take n d) _ _ (take-set-lt n d i Kept l) (set-stays is-dropped (take n d) i Kept (λ z. z)))
+      (same is-kept (drop n d) _ (drop-set-lt n d i Kept l)) (same is-dropped (drop n d) _ (drop-set-lt n d i Kept l)))
 
   pub open-option-may-be-dropped : (i : ℕ) → i < n → T (is-open (getD (forced s d) i Open)) → T (not (limits-of s (set d i Dropped) .contradiction))
   unfolding decided-by-slot
   open-option-may-be-dropped i l o = untold (set d i Dropped) (drop-option v b (decided-by-slot s (set d i Dropped)) (fine-from s ps d size fine)
-    (option-kept v b) (option-kept-out v b) (option-kept-in v b (on-the-sheet s d size ps)) i
-    (λ h. open-option s ps d size i l o .0 (option-kept-in v b (on-the-sheet s d size ps) i h))
-    (via is-kept (take n d) _ _ (take-set-lt n d i Dropped l) (set-stays is-kept (take n d) i Dropped (λ z. z)))
-    (via-grows is-dropped i (take n d) _ _ (take-set-lt n d i Dropped l) (set-grows is-dropped (take n d) i Dropped))
-    (same is-kept (drop n d) _ (drop-set-lt n d i Dropped l)) (same is-dropped (drop n d) _ (drop-set-lt n d i Dropped l)))
+      (option-kept v b) (option-kept-out v b) (option-kept-in v b (on-the-sheet s d size ps)) i
+      (λ h. open-option s ps d size i l o .0 (option-kept-in v b (on-the-sheet s d size ps) i h))
+      (via is-kept (take n d) _ _ (take-set-lt n d i Dropped l) (set-stays is-kept (take n d) i Dropped (λ z. z)))
+      (via-grows is-dropped i (take n d) _ _ (take-set-lt n d i Dropped l) (set-grows is-dropped (take n d) i Dropped))
+      (same is-kept (drop n d) _ (drop-set-lt n d i Dropped l)) (same is-dropped (drop n d) _ (drop-set-lt n d i Dropped l)))
 
   pub open-ordering-may-be-kept : (u : ℕ) → u < length (s .orderings) → T (is-open (getD (forced s d) (n + u) Open)) → T (not (limits-of s (set d (n + u) Kept) .contradiction))
   unfolding decided-by-slot subscription
   open-ordering-may-be-kept u l o = untold (set d (n + u) Kept) (keep-ordering v b (decided-by-slot s (set d (n + u) Kept)) (fine-from s ps d size fine) u
-    (λ h. open-ordering s ps d size u l o .1 (ordering-dropped-in v b (on-the-sheet s d size ps) u h)) (ps .ends-differ u l)
-    (same is-kept (take n d) _ (take-set-le n d (n + u) Kept (omega arith))) (same is-dropped (take n d) _ (take-set-le n d (n + u) Kept (omega arith)))
-    (via-grows is-kept u (drop n d) _ _ (drop-set-add n d u Kept) (set-grows is-kept (drop n d) u Kept))
-    (via is-dropped (drop n d) _ _ (drop-set-add n d u Kept) (set-stays is-dropped (drop n d) u Kept (λ z. z))))
+      (λ h. open-ordering s ps d size u l o .1 (ordering-dropped-in v b (on-the-sheet s d size ps) u h)) (ps .ends-differ u l)
+      (same is-kept (take n d) _ (take-set-le n d (n + u) Kept (omega arith))) (same is-dropped (take n d) _ (take-set-le n d (n + u) Kept (omega arith)))
+      (via-grows is-kept u (drop n d) _ _ (drop-set-add n d u Kept) (set-grows is-kept (drop n d) u Kept))
+      (via is-dropped (drop n d) _ _ (drop-set-add n d u Kept) (set-stays is-dropped (drop n d) u Kept (λ z. z))))
 
   pub open-ordering-may-be-dropped : (u : ℕ) → u < length (s .orderings) → T (is-open (getD (forced s d) (n + u) Open)) → T (not (limits-of s (set d (n + u) Dropped) .contradiction))
   unfolding decided-by-slot ordering-kept
   open-ordering-may-be-dropped u l o = untold (set d (n + u) Dropped) (drop-ordering v b (decided-by-slot s (set d (n + u) Dropped)) (fine-from s ps d size fine)
-    (option-kept v b) (option-kept-out v b) (option-kept-in v b (on-the-sheet s d size ps)) u
-    (λ h. open-ordering s ps d size u l o .0 h)
-    (same is-kept (take n d) _ (take-set-le n d (n + u) Dropped (omega arith))) (same is-dropped (take n d) _ (take-set-le n d (n + u) Dropped (omega arith)))
-    (via is-kept (drop n d) _ _ (drop-set-add n d u Dropped) (set-stays is-kept (drop n d) u Dropped (λ z. z)))
-    (via-grows is-dropped u (drop n d) _ _ (drop-set-add n d u Dropped) (set-grows is-dropped (drop n d) u Dropped)))
+      (option-kept v b) (option-kept-out v b) (option-kept-in v b (on-the-sheet s d size ps)) u
+      (λ h. open-ordering s ps d size u l o .0 h)
+      (same is-kept (take n d) _ (take-set-le n d (n + u) Dropped (omega arith))) (same is-dropped (take n d) _ (take-set-le n d (n + u) Dropped (omega arith)))
+      (via is-kept (drop n d) _ _ (drop-set-add n d u Dropped) (set-stays is-kept (drop n d) u Dropped (λ z. z)))
+      (via-grows is-dropped u (drop n d) _ _ (drop-set-add n d u Dropped) (set-grows is-dropped (drop n d) u Dropped)))

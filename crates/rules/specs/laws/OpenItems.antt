@@ -33,6 +33,7 @@ no-contradiction-from v d not-given no-cycle not-given-ordering = record { optio
     option i k (OptionDropped.given t) = not-given i k t
     option i k (OptionDropped.before-itself p) = no-cycle i k p
     option i k (OptionDropped.before-and-after-a-kept-option j m p q) = no-cycle i k (join p m q)
+
     ordering : (u : ℕ) → OrderingKept v d u → OrderingDropped v d u → ⊥
     ordering u k (OrderingDropped.given t) = not-given-ordering u k t
     ordering u k (OrderingDropped.first-dropped h) = option (v .first u) (OptionKept.first-of u k refl) h
@@ -65,6 +66,7 @@ module _ (v : Subscription) (d g : DecidedBySlot) (fine : NoContradiction v d) w
         not-given : (i : ℕ) → OptionKept v d i ⊎ (i ≡ x) → T (is-dropped (d .option i)) → ⊥
         not-given i (inl k) t = fine .option i k (OptionDropped.given t)
         not-given i (inr e) t = not-dropped (OptionDropped.given (subst (λ z. T (is-dropped (d .option z))) e t))
+
         no-cycle : (i : ℕ) → OptionKept v d i ⊎ (i ≡ x) → KnownBefore v d i i ⊎ (KnownBefore v d i x × KnownBefore v d x i) → ⊥
         no-cycle i (inl k) (inl p) = fine .option i k (OptionDropped.before-itself p)
         no-cycle i (inl k) (inr p) = not-dropped (OptionDropped.before-and-after-a-kept-option i k (p .1) (p .0))
@@ -79,10 +81,11 @@ module _ (v : Subscription) (d g : DecidedBySlot) (fine : NoContradiction v d) w
     pub drop-option : (x : ℕ) → (OptionKept v d x → ⊥) → Stays is-kept (d .option) (g .option) → GrowsAt x is-dropped (d .option) (g .option)
         → Stays is-kept (d .ordering) (g .ordering) → Stays is-dropped (d .ordering) (g .ordering) → NoContradiction v g
     drop-option x not-kept ks ds ks′ ds′ = no-contradiction v g (least v d keeps keeps-out keeps-in fine) (least-consistent v d keeps keeps-out keeps-in fine) (record {
-        keeps-option = λ i t. agrees .keeps-option i (ks i t);
-        drops-option = λ i t. from i (ds i t);
-        keeps-ordering = λ u t. agrees .keeps-ordering u (ks′ u t);
-        drops-ordering = λ u t. agrees .drops-ordering u (ds′ u t) })
+      keeps-option = λ i t. agrees .keeps-option i (ks i t);
+      drops-option = λ i t. from i (ds i t);
+      keeps-ordering = λ u t. agrees .keeps-ordering u (ks′ u t);
+      drops-ordering = λ u t. agrees .drops-ordering u (ds′ u t);
+    })
       where
         from : (i : ℕ) → T (is-dropped (d .option i)) ⊎ (i ≡ x) → T (not (keeps i))
         from i (inl t) = agrees .drops-option i t
@@ -91,10 +94,11 @@ module _ (v : Subscription) (d g : DecidedBySlot) (fine : NoContradiction v d) w
     pub drop-ordering : (w : ℕ) → (OrderingKept v d w → ⊥) → Stays is-kept (d .option) (g .option) → Stays is-dropped (d .option) (g .option)
         → Stays is-kept (d .ordering) (g .ordering) → GrowsAt w is-dropped (d .ordering) (g .ordering) → NoContradiction v g
     drop-ordering w not-kept ks ds ks′ ds′ = no-contradiction v g (least v d keeps keeps-out keeps-in fine) (least-consistent v d keeps keeps-out keeps-in fine) (record {
-        keeps-option = λ i t. agrees .keeps-option i (ks i t);
-        drops-option = λ i t. agrees .drops-option i (ds i t);
-        keeps-ordering = λ u t. agrees .keeps-ordering u (ks′ u t);
-        drops-ordering = λ u t. from u (ds′ u t) })
+      keeps-option = λ i t. agrees .keeps-option i (ks i t);
+      drops-option = λ i t. agrees .drops-option i (ds i t);
+      keeps-ordering = λ u t. agrees .keeps-ordering u (ks′ u t);
+      drops-ordering = λ u t. from u (ds′ u t);
+    })
       where
         from : (u : ℕ) → T (is-dropped (d .ordering u)) ⊎ (u ≡ w) → T (not (is-kept (d .ordering u)))
         from u (inl t) = agrees .drops-ordering u t
@@ -122,12 +126,15 @@ one-more-edge {B} {K} x y (join {i = i} {j = m} {k = j} p t q) = mix (one-more-e
   where
     J : ℕ → ℕ → Type 0
     J = Joined B K
+
     to : J i m → (m ≡ x) ⊎ J m x → (i ≡ x) ⊎ J i x
     to a (inl e) = inr (subst (J i) e a)
     to a (inr b) = inr (join a t b)
+
     from : (y ≡ m) ⊎ J y m → J m j → (y ≡ j) ⊎ J y j
     from (inl e) b = inr (subst (λ z. J z j) (sym e) b)
     from (inr a) b = inr (join a t b)
+
     mix : J i m ⊎ (((i ≡ x) ⊎ J i x) × ((y ≡ m) ⊎ J y m)) → J m j ⊎ (((m ≡ x) ⊎ J m x) × ((y ≡ j) ⊎ J y j)) → J i j ⊎ (((i ≡ x) ⊎ J i x) × ((y ≡ j) ⊎ J y j))
     mix (inl a) (inl b) = inl (join a t b)
     mix (inl a) (inr b) = inr (to a (b .0), b .1)
@@ -139,18 +146,23 @@ module _ (v : Subscription) (d g : DecidedBySlot) (fine : NoContradiction v d) (
     (kept-grows : GrowsAt w is-kept (d .ordering) (g .ordering)) (dropped-stays : Stays is-dropped (d .ordering) (g .ordering)) where
   abbrev x : ℕ
   x = v .first w
+
   abbrev y : ℕ
   y = v .second w
 
   -- with x as one more middle, then with y too
   abbrev WithFirst : ℕ → Type 0
   WithFirst = OrOne (OptionKept v d) x
+
   abbrev WithBoth : ℕ → Type 0
   WithBoth = OrOne WithFirst y
+
   abbrev J : ℕ → ℕ → Type 0
   J = KnownBefore v d
+
   abbrev J-first : ℕ → ℕ → Type 0
   J-first = Joined (KnownFromTheStart v d) WithFirst
+
   abbrev J-both : ℕ → ℕ → Type 0
   J-both = Joined (KnownFromTheStart v d) WithBoth
 
@@ -239,6 +251,7 @@ module _ (v : Subscription) (d g : DecidedBySlot) (fine : NoContradiction v d) (
       back (inl e) (inr q) = not-back-both (subst (J-both y) e q)
       back (inr q) (inl f) = not-back-both (subst (λ z. J-both z x) (sym f) q)
       back (inr q) (inr r) = not-back-both (join r k q)
+
       go : J-both i i ⊎ (((i ≡ x) ⊎ J-both i x) × ((y ≡ i) ⊎ J-both y i)) → ⊥
       go (inl q) = none-round-both i k q
       go (inr q) = back (q .0) (q .1)

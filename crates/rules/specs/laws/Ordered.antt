@@ -32,10 +32,11 @@ module _ (e : ℕ → ℕ → Bool) where
 
   rest-ordered : (l : List ℕ) (x : ℕ) (rest : List ℕ) → Ordered e l (x ∷ rest) → Ordered e (without x l) rest
   rest-ordered l x rest o = record {
-      all = λ y m. let (p, q) = without-out x l y m in other y q (List·Memᴰ·cases-cons (o .all y p));
-      only = λ y m. without-in x l y (o .only y (List·Memᴰ·tail m)) (λ c. o .once [] rest x refl (subst (λ z. List·Memᴰ z rest) (sym c) m));
-      once = λ front back z p. o .once (x ∷ front) back z (ap (λ k. x ∷ k) p);
-      forward = λ front back z p. o .forward (x ∷ front) back z (ap (λ k. x ∷ k) p) }
+    all = λ y m. let (p, q) = without-out x l y m in other y q (List·Memᴰ·cases-cons (o .all y p));
+    only = λ y m. without-in x l y (o .only y (List·Memᴰ·tail m)) (λ c. o .once [] rest x refl (subst (λ z. List·Memᴰ z rest) (sym c) m));
+    once = λ front back z p. o .once (x ∷ front) back z (ap (λ k. x ∷ k) p);
+    forward = λ front back z p. o .forward (x ∷ front) back z (ap (λ k. x ∷ k) p);
+  }
     where
       other : (y : ℕ) → (x ≡ y → ⊥) → (y ≡ x) ⊎ List·Memᴰ y rest → List·Memᴰ y rest
       other y n (inl c) = absurd (n (sym c))
@@ -47,9 +48,11 @@ module _ (e : ℕ → ℕ → Bool) where
 
   nothing-ordered : Ordered e [] []
   nothing-ordered = record {
-      all = λ x m. m; only = λ x m. m;
-      once = λ front back x p m. empty front back x p;
-      forward = λ front back x p y m t. empty front back x p }
+    all = λ x m. m;
+    only = λ x m. m;
+    once = λ front back x p m. empty front back x p;
+    forward = λ front back x p y m t. empty front back x p;
+  }
     where
       empty : (front back : List ℕ) (x : ℕ) → [] ≡ front ++ (x ∷ back) → ⊥
       empty [] back x p = let z : _≡_ {A = ℕ} 0 1 = cc in omega arith
@@ -68,18 +71,21 @@ module _ (e : ℕ → ℕ → Bool) where
               go : Dec (x ≡ y) → List·Memᴰ y (x ∷ rest)
               go (yes c) = List·Memᴰ·head (sym c)
               go (no n) = List·Memᴰ·tail (o .all y (without-in x l y m n))
+
           only : (y : ℕ) → List·Memᴰ y (x ∷ rest) → List·Memᴰ y l
           only y m = go (List·Memᴰ·cases-cons m)
             where
               go : (y ≡ x) ⊎ List·Memᴰ y rest → List·Memᴰ y l
               go (inl c) = subst (λ z. List·Memᴰ z l) (sym c) here
               go (inr k) = without-out x l y (o .only y k) .0
+
           once : (front back : List ℕ) (z : ℕ) → x ∷ rest ≡ front ++ (z ∷ back) → List·Memᴰ z back → ⊥
           once [] back z p m = let in-rest = subst (λ k. List·Memᴰ z k) (sym (ap tail-of p)) m in without-out x l z (o .only z in-rest) .1 (ap head-of p)
           once (w ∷ front) back z p m = o .once front back z (ap tail-of p) m
+
           forward : (front back : List ℕ) (z : ℕ) → x ∷ rest ≡ front ++ (z ∷ back) → (y : ℕ) → List·Memᴰ y (z ∷ back) → T (e y z) → ⊥
           forward [] back z p y m t = T-not (some-of (λ y. e y x) l) free
-            (some-of-in (λ y. e y x) l y (only y (subst (λ k. List·Memᴰ y k) (sym p) m)) (subst (λ k. T (e y k)) (sym (ap head-of p)) t))
+              (some-of-in (λ y. e y x) l y (only y (subst (λ k. List·Memᴰ y k) (sym p) m)) (subst (λ k. T (e y k)) (sym (ap head-of p)) t))
           forward (w ∷ front) back z p y m t = o .forward front back z (ap tail-of p) y m t
 
   pub ordered-iff-placing : (l order : List ℕ) → Ordered e l order ↔ Placing e l order

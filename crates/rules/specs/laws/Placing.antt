@@ -39,6 +39,7 @@ module _ (P : ℕ → ℕ → Type 0) (transitive : (a b c : ℕ) → P a b → 
               new : (y : ℕ) → (y ≡ x) ⊎ List·Memᴰ y (z ∷ l) → P y x → ⊥
               new y (inl c) q = irreflexive x (subst (λ t. P t x) c q)
               new y (inr my) q = w .2 y my (transitive y x (w .0) q p)
+
           old : (y : ℕ) → (y ≡ x) ⊎ List·Memᴰ y (z ∷ l) → P y (w .0) → ⊥
           old y (inl c) p = no-x (subst (λ t. P t (w .0)) c p)
           old y (inr my) p = w .2 y my p
@@ -64,7 +65,7 @@ module _ (e : ℕ → ℕ → Bool) where
       go : T (some-of (ready e (x ∷ l)) (x ∷ l)) ⊎ (T (some-of (ready e (x ∷ l)) (x ∷ l)) → ⊥) → T (some-of (ready e (x ∷ l)) (x ∷ l))
       go (inl t) = t
       go (inr n) = absurd (minimal-not-missing (Walk (x ∷ l)) (λ a b c p q. join p tt q) acyclic x l (λ w.
-        n (some-of-in (ready e (x ∷ l)) (x ∷ l) (w .0) (w .1) (not-T (some-of (λ y. e y (w .0)) (x ∷ l)) (λ s.
+          n (some-of-in (ready e (x ∷ l)) (x ∷ l) (w .0) (w .1) (not-T (some-of (λ y. e y (w .0)) (x ∷ l)) (λ s.
           let (y, m, t) = some-of-out (λ y. e y (w .0)) (x ∷ l) s in w .2 y m (base (among m (w .1) t)))))))
 
   -- ---- what is placed first is on no cycle, so a cycle lives in the rest
@@ -124,18 +125,22 @@ module _ (number : ℕ → ℕ) (e : ℕ → ℕ → Bool) where
           at : (y : ℕ) → (y ≡ z) ⊎ List·Memᴰ y l → T (p y) → number z ≤ number y
           at y (inl c) q = subst (λ w. number z ≤ number w) (sym c) (omega arith)
           at y (inr k) q = f y k q
+
       tail : (b : Smallest p l) → (T (p z) → number (b .which) ≤ number z) → Smallest p (z ∷ l)
       tail b f = record { which = b .which; here = List·Memᴰ·tail (b .here); passes = b .passes; least = λ y k q. at y (List·Memᴰ·cases-cons k) q }
         where
           at : (y : ℕ) → (y ≡ z) ⊎ List·Memᴰ y l → T (p y) → number (b .which) ≤ number y
           at y (inl c) q = subst (λ w. number (b .which) ≤ number w) (sym c) (f (subst (λ w. T (p w)) c q))
           at y (inr k) q = b .least y k q
+
       both : T (p z) → (b : Smallest p l) → (c : Bool) → (T c → number (b .which) ≤ number z) → (T (not c) → number z < number (b .which)) → Smallest p (z ∷ l)
       both a b true g h = tail b (λ _. g tt)
       both a b false g h = head a (λ y k q. let x = b .least y k q in let w = h tt in omega arith)
+
       none : T (p z) ⊎ T (some-of p l) → (T (p z) → ⊥) → (T (some-of p l) → ⊥) → ⊥
       none (inl u) n k = n u
       none (inr u) n k = k u
+
       go : T (p z) ⊎ (T (p z) → ⊥) → T (some-of p l) ⊎ (T (some-of p l) → ⊥) → (T (some-of p l) → Smallest p l) → Smallest p (z ∷ l)
       go (inl a) (inr n) f = head a (λ y m q. absurd (n (some-of-in p l y m q)))
       go (inl a) (inl b) f = let x = f b in both a x (leb (number (x .which)) (number z)) (leb→le (number (x .which)) (number z)) (nleb→lt (number (x .which)) (number z))
@@ -167,10 +172,11 @@ module _ (number : ℕ → ℕ) (e : ℕ → ℕ → Bool) where
     where
       distinct′ : Distinct (without x l)
       distinct′ y z p k c = distinct y z (without-out x l y p .0) (without-out x l z k .0) c
+
       step : {t : List ℕ} → Begins e l t → ((u : List ℕ) → Placing e (without x l) u → NoLater (map number s) (map number u)) → NoLater (map number (x ∷ s)) (map number t)
       step h below = subst (λ z. NoLater (map number (x ∷ s)) (map number z)) (sym (h .is)) (go (eq-or-lt-of-le (f (h .first) (h .here) (h .free))))
         where
           go : (number x ≡ number (h .first)) ⊎ (number x < number (h .first)) → NoLater (map number (x ∷ s)) (map number (h .first ∷ h .rest))
           go (inr k) = smaller k
           go (inl k) = let c = distinct x (h .first) m (h .here) k in
-            subst (λ z. NoLater (map number (x ∷ s)) (map number (z ∷ h .rest))) c (same (below (h .rest) (subst (λ z. Placing e (without z l) (h .rest)) (sym c) (h .then))))
+              subst (λ z. NoLater (map number (x ∷ s)) (map number (z ∷ h .rest))) c (same (below (h .rest) (subst (λ z. Placing e (without z l) (h .rest)) (sym c) (h .then))))

@@ -51,12 +51,14 @@ module _ (number : ℕ → ℕ) (e : ℕ → ℕ → Bool) where
           at : (y : ℕ) → (y ≡ z) ⊎ List·Memᴰ y l → T (ready e left y) → number b ≤ number y
           at y (inl c) t = absurd (T-not (ready e left z) n (subst (λ w. T (ready e left w)) c t))
           at y (inr m) t = f y m t
+
       alone : T (ready e left z) → ((y : ℕ) → List·Memᴰ y l → T (ready e left y) → number z ≤ number y) → Told left (z ∷ l) (some z)
       alone r f = somebody z (List·Memᴰ·head refl) r (λ y m t. at y (List·Memᴰ·cases-cons m) t)
         where
           at : (y : ℕ) → (y ≡ z) ⊎ List·Memᴰ y l → T (ready e left y) → number z ≤ number y
           at y (inl c) t = subst (λ w. number z ≤ number w) (sym c) (omega arith)
           at y (inr m) t = f y m t
+
       two : T (ready e left z) → (b : ℕ) → List·Memᴰ b l → T (ready e left b) → ((y : ℕ) → List·Memᴰ y l → T (ready e left y) → number b ≤ number y)
           → (c : Bool) → (T c → number b < number z) → (T (not c) → number z ≤ number b) → Told left (z ∷ l) (some (cond c b z))
       two r b k rb f true g h = somebody b (List·Memᴰ·tail k) rb (λ y m t. at y (List·Memᴰ·cases-cons m) t)
@@ -65,6 +67,7 @@ module _ (number : ℕ → ℕ) (e : ℕ → ℕ → Bool) where
           at y (inl c) t = subst (λ w. number b ≤ number w) (sym c) (let x = g tt in omega arith)
           at y (inr m) t = f y m t
       two r b k rb f false g h = alone r (λ y m t. let x = f y m t in let w = h tt in omega arith)
+
       go : (a : Bool) → ready e left z ≡ a → (o : Option ℕ) → Told left l o → Told left (z ∷ l) (if-ready number e a z o)
       go false q o t = passed (subst (λ w. T (not w)) (sym q) tt) t
       go true q o (nobody h) = alone (subst T (sym q) tt) (λ y m t. absurd (h y m t))
@@ -110,9 +113,9 @@ module _ (s : Lines) (r : List Bool) where
   module _ (q : Relaxation s r) where
     edge-among : (i j : ℕ) → Edge v c i j → Among (precedes v c) (kept-slots v c) i j
     edge-among i j e =
-      let on = kept-on-the-sheet s r (q .size) in
-      let a = edge-from v c on (q .ends) i j e in let b = edge-to v c on (q .ends) i j e in
-      among (slots-in (v .option-count) (c .option) i (on .option i a) a) (slots-in (v .option-count) (c .option) j (on .option j b) b) (precedes-in v c on i j e)
+        let on = kept-on-the-sheet s r (q .size) in
+        let a = edge-from v c on (q .ends) i j e in let b = edge-to v c on (q .ends) i j e in
+        among (slots-in (v .option-count) (c .option) i (on .option i a) a) (slots-in (v .option-count) (c .option) j (on .option j b) b) (precedes-in v c on i j e)
 
     path-walk : {i j : ℕ} → Path v c i j → Walk (precedes v c) (kept-slots v c) i j
     path-walk (one {i = i} {j = j} e) = base (edge-among i j e)
@@ -128,9 +131,10 @@ module _ (s : Lines) (r : List Bool) where
     where
       to : {places : List ℕ} → SequenceOf s r places → ConsistentRelaxation s r
       to q = record { relaxation = q .relaxation; consistent = λ i p. placing-acyclic (precedes v c) (sequence-is-placing (v .number) (precedes v c) (q .sequence)) i (path-walk (q .relaxation) p) }
+
       from : ConsistentRelaxation s r → (places : List ℕ) × SequenceOf s r places
       from k = let (l, q) = sequence-exists (v .number) (precedes v c) (length (kept-slots v c)) (kept-slots v c) (le-refl _) (λ i w. k .consistent i (walk-path w)) in
-        (map (v .number) l, record { relaxation = k .relaxation; by-slot = l; sequence = q; numbers = refl })
+          (map (v .number) l, record { relaxation = k .relaxation; by-slot = l; sequence = q; numbers = refl })
 
   module _ (ps : Proper s) where
     distinct : Distinct (v .number) (precedes v c) (kept-slots v c)
@@ -148,7 +152,7 @@ module _ (s : Lines) (r : List Bool) where
     -- THE SMALLEST ORDER: whatever lists the kept options once with every edge forward has no smaller number at the first difference.
     pub sequence-is-smallest : (places order : List ℕ) → SequenceOf s r places → Ordered (precedes v c) (kept-slots v c) order → NoLater places (map (v .number) order)
     sequence-is-smallest places order q o = subst (λ z. NoLater z (map (v .number) order)) (sym (q .numbers))
-      (sequence-least (v .number) (precedes v c) distinct (q .sequence) (ordered-placing (precedes v c) (kept-slots v c) order o))
+        (sequence-least (v .number) (precedes v c) distinct (q .sequence) (ordered-placing (precedes v c) (kept-slots v c) order o))
 
     pub sequence-of-choice-is : (places : List ℕ) → (sequence-of-choice s r ≡ some places) ↔ SequenceOf s r places
     unfolding sequence-of-choice
@@ -156,9 +160,11 @@ module _ (s : Lines) (r : List Bool) where
       where
         given : T (is-consistent s r) → SequenceOf s r (numbers-in-sequence s r)
         given t = let (l, q) = has-sequence-iff-consistent .1 (consistent-out s r t) in subst (SequenceOf s r) (sequence-is-computed l q) q
+
         to : (b : Bool) → is-consistent s r ≡ b → cond b (some (numbers-in-sequence s r)) none ≡ some places → SequenceOf s r places
         to true e h = let same : numbers-in-sequence s r ≡ places = cc in subst (SequenceOf s r) same (given (subst T (sym e) tt))
         to false e h = let z : _≡_ {A = ℕ} 0 1 = cc in absurd (omega arith)
+
         from : (b : Bool) → is-consistent s r ≡ b → SequenceOf s r places → cond b (some (numbers-in-sequence s r)) none ≡ some places
         from true e q = ap some (sym (sequence-is-computed places q))
         from false e q = absurd (subst T e (consistent-in s r (has-sequence-iff-consistent .0 (places, q))))

@@ -77,6 +77,7 @@ over-one j (suc n) w h = go (eq-or-lt-of-le (le-of-suc-le-suc h)) (over-one j n 
     here : (b : Bool) → T b → w n ≤ pick b (w n)
     here true t = omega arith
     here false t = absurd t
+
     go : (j ≡ n) ⊎ (j < n) → (j < n → w j ≤ over n w (λ i. eqb j i)) → w j ≤ over n w (λ i. eqb j i) + pick (eqb j n) (w n)
     go (inl e) f = let p = here (eqb j n) (subst (λ z. T (eqb j z)) e (eqb-refl j)) in let q = ap w e in omega arith
     go (inr l) f = let p = f l in omega arith
@@ -98,9 +99,11 @@ over-one-is j (suc n) w h = go (eq-or-lt-of-le (le-of-suc-le-suc h)) (over-one-i
     here : (b : Bool) → T b → pick b (w n) ≡ w n
     here true t = refl
     here false t = absurd t
+
     there : (b : Bool) → (T b → j ≡ n) → j < n → pick b (w n) ≡ 0
     there true f l = let e = f tt in absurd (omega arith)
     there false f l = refl
+
     go : (j ≡ n) ⊎ (j < n) → (j < n → over n w (λ i. eqb j i) ≡ w j) → over n w (λ i. eqb j i) + pick (eqb j n) (w n) ≡ w j
     go (inl e) f = let p = here (eqb j n) (subst (λ z. T (eqb j z)) e (eqb-refl j)) in let q = ap w e in let z = over-one-none j n w (omega arith) in omega arith
     go (inr l) f = let p = f l in let q = there (eqb j n) (λ t. eqb→eq j n t) l in omega arith

@@ -1,5 +1,5 @@
 -- The limits of a half-decided sheet: the letters of 01 and its table, cell by cell.
-use mathlib.Core.Bool.{Bool, true, false, not, _&&_, _||_}
+use mathlib.Core.Bool.{Bool, not, _&&_, _||_}
 use Prim.Native.Nat.{ℕ, _+_, _-_}
 use lib.Dec.{eqb}
 use Rattle.rules.specs.Slots.{sum, over}

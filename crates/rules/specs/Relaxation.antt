@@ -1,11 +1,11 @@
 -- What a relaxation is, when it is consistent, and what it is worth.
 use mathlib.Core.Path.{_≡_}
-use mathlib.Core.Bool.{Bool, true, false}
+use mathlib.Core.Bool.{Bool, false}
 use mathlib.Core.List.{List}
 use Prim.Native.Nat.{ℕ, _+_}
 use lib.ListN.{length, getD, take, drop}
 use lib.Dec.{T}
-use Rattle.rules.specs.Slots.{sum, pick, over}
+use Rattle.rules.specs.Slots.{over}
 use Rattle.rules.specs.Lines.{Lines}
 use Rattle.rules.specs.Subscription.{Subscription, subscription, items}
 

@@ -1,11 +1,11 @@
 -- What each public function returns, as a function of the sheet's lines: nothing here searches.
-use mathlib.Core.Bool.{Bool, true, false, not, _&&_, _||_, cond}
+use mathlib.Core.Bool.{Bool, true, false, not, _&&_, cond}
 use mathlib.Core.List.{List, [], _∷_, map}
 use mathlib.Core.Option.{Option, none, some}
 use Prim.Native.Nat.{ℕ, zero, suc}
 use lib.ListN.{length, replicate}
 use lib.Dec.{eqb, leb, ltb}
-use Rattle.rules.specs.Slots.{some-below, slots, list-of}
+use Rattle.rules.specs.Slots.{some-below, list-of}
 use Rattle.rules.specs.Joined.{through}
 use Rattle.rules.specs.Lines.{Lines}
 use Rattle.rules.specs.Subscription.{Subscription, subscription, items}

@@ -8,7 +8,7 @@ use Rattle.rules.specs.Slots.{some-of, some-below, slots}
 use Rattle.rules.specs.Lines.{Lines}
 use Rattle.rules.specs.Subscription.{Subscription, subscription}
 use Rattle.rules.specs.KnownBefore.{puts-first}
-use Rattle.rules.specs.Relaxation.{KeptBySlot, kept-by-slot, Edge, Relaxation}
+use Rattle.rules.specs.Relaxation.{KeptBySlot, kept-by-slot, Relaxation}
 
 -- Is there an edge from i to j in the graph? (`Edge`, computed.)
 unfoldable pub precedes : Subscription → KeptBySlot → ℕ → ℕ → Bool

@@ -1,8 +1,7 @@
 -- A sheet by slots: what is said of each option and each ordering.
 use mathlib.Core.Path.{_≡_}
 use mathlib.Core.Bool.{Bool}
-use mathlib.Core.List.{List}
-use Prim.Native.Nat.{ℕ, zero, suc, _+_, _<_}
+use Prim.Native.Nat.{ℕ, _+_, _<_}
 use lib.ListN.{length, getD}
 use Rattle.rules.specs.Lines.{Lines, OptionLine, OrderingLine, catalogue-puts-before, slot-of}
 

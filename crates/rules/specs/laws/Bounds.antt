@@ -3,7 +3,7 @@ use mathlib.Core.Bool.{Bool}
 use Prim.Native.Nat.{ℕ, _+_, _≤_}
 use native.Mathlib.Omega.{arith}
 use lib.Dec.{T}
-use Rattle.rules.specs.Slots.{sum, over}
+use Rattle.rules.specs.Slots.{sum}
 use Rattle.rules.specs.Subscription.{Subscription}
 use Rattle.rules.specs.Relaxation.{KeptBySlot, value}
 use Rattle.rules.specs.Limits.{weight-of}

@@ -3,7 +3,7 @@ use mathlib.Core.Bool.{not}
 use Prim.Native.Nat.{ℕ, _<_}
 use lib.Dec.{T}
 use Rattle.rules.specs.Subscription.{Subscription}
-use Rattle.rules.specs.Relaxation.{KeptBySlot, Edge, by-catalogue, by-ordering, Path, one, more, HasBothOptions, NoCycle}
+use Rattle.rules.specs.Relaxation.{KeptBySlot, Path, one, more, HasBothOptions, NoCycle}
 use Rattle.rules.specs.Decisions.{DecidedBySlot, is-kept, is-dropped}
 
 pub record ConsistentBySlot (v : Subscription) (c : KeptBySlot) : Type 0 where

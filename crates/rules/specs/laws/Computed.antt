@@ -1,15 +1,14 @@
 -- The computed forms of kept, known before, dropped and contradiction say exactly what 01's rules say.
-use mathlib.Core.Path.{_≡_, refl, sym, subst, ap, _∙_}
-use mathlib.Core.Bool.{Bool, true, false, not, _&&_, _||_}
+use mathlib.Core.Path.{subst}
+use mathlib.Core.Bool.{not, _&&_, _||_}
 use mathlib.Core.Logic.{_⊎_, inl, inr}
-use Prim.Native.Nat.{ℕ, zero, suc, _+_, _-_, _≤_, _<_}
-use mathlib.Core.List.{List, List·Memᴰ}
+use Prim.Native.Nat.{ℕ, _-_, _<_}
 use lib.Dec.{T, T-not, not-T, eqb, eqb→eq, eqb-refl}
 use Rattle.rules.specs.Slots.{some-below, slots}
-use Rattle.rules.specs.Joined.{Joined, base, join, through}
+use Rattle.rules.specs.Joined.{join}
 use Rattle.rules.specs.Subscription.{Subscription}
 use Rattle.rules.specs.Decisions.{DecidedBySlot, is-kept, is-dropped}
-use Rattle.rules.specs.KnownBefore.{OrderingKept, OptionKept, KnownFromTheStart, KnownBefore, puts-first, touches, ordering-kept, option-kept, known-from-the-start, known-before}
+use Rattle.rules.specs.KnownBefore.{OptionKept, KnownFromTheStart, KnownBefore, puts-first, touches, ordering-kept, option-kept, known-from-the-start, known-before}
 use Rattle.rules.specs.Forced.{OptionDropped, OrderingDropped, NoContradiction, option-dropped, ordering-dropped, contradiction}
 use Rattle.rules.specs.laws.Tests.{and-l, and-r, and-i, or-l, or-r, or-e}
 use Rattle.rules.specs.laws.Slots.{some-in, some-out, slots-in, slots-out}

@@ -10,7 +10,7 @@ use Rattle.rules.specs.Subscription.{subscription, items, Proper}
 use Rattle.rules.specs.Relaxation.{kept-by-slot, ConsistentRelaxation}
 use Rattle.rules.specs.Decisions.{Decision, decided-by-slot, Agrees}
 use Rattle.rules.specs.Forced.{NoContradiction, contradiction, forced}
-use Rattle.rules.specs.Results.{Limits, contradictory, limited, limits-of}
+use Rattle.rules.specs.Results.{contradictory, limited, limits-of}
 use Rattle.rules.specs.laws.Tests.{test}
 use Rattle.rules.specs.laws.Forced.{no-contradiction}
 use Rattle.rules.specs.laws.Computed.{no-contradiction-in, no-contradiction-out}

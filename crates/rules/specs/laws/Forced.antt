@@ -1,13 +1,13 @@
 -- Forced decisions are sound, and where nothing contradicts, keeping exactly the kept items is a consistent relaxation.
-use mathlib.Core.Path.{_≡_, refl, subst}
+use mathlib.Core.Path.{refl, subst}
 use mathlib.Core.Bool.{Bool}
 use Prim.Native.Nat.{ℕ}
 use lib.Dec.{T, T-not, not-T}
-use Rattle.rules.specs.Joined.{Joined, base, join}
+use Rattle.rules.specs.Joined.{base, join}
 use Rattle.rules.specs.Subscription.{Subscription}
 use Rattle.rules.specs.Relaxation.{KeptBySlot, by-catalogue, by-ordering, Path, one, more}
-use Rattle.rules.specs.Decisions.{DecidedBySlot, is-kept, is-dropped}
-use Rattle.rules.specs.KnownBefore.{OrderingKept, OptionKept, KnownFromTheStart, KnownBefore}
+use Rattle.rules.specs.Decisions.{DecidedBySlot, is-kept}
+use Rattle.rules.specs.KnownBefore.{OptionKept, KnownFromTheStart, KnownBefore}
 use Rattle.rules.specs.Forced.{OptionDropped, OrderingDropped, NoContradiction}
 use Rattle.rules.specs.laws.BySlot.{ConsistentBySlot, AgreesBySlot, append}
 

@@ -1,25 +1,24 @@
 -- The list of forced decisions: what agrees agrees with it, it is a fixed point, and it opens nothing.
-use mathlib.Core.Path.{_≡_, refl, sym, subst, ap, _∙_, fun-ext}
-use mathlib.Core.Bool.{Bool, true, false, not}
-use mathlib.Core.List.{List, [], _∷_, _++_}
-use Prim.Native.Nat.{ℕ, zero, suc, _+_, _-_, _≤_, _<_, min}
+use mathlib.Core.Path.{_≡_, sym, subst, ap, _∙_, fun-ext}
+use mathlib.Core.Bool.{Bool, true, false}
+use mathlib.Core.List.{List, _++_}
+use Prim.Native.Nat.{ℕ, _+_, _-_, _≤_, _<_, min}
 use native.Mathlib.Omega.{arith}
 use lib.ListN.{length, getD, take, drop, length-take, length-drop, length-append}
 use lib.Seq.{take-at, drop-at}
 use lib.Dec.{T, not-T}
 use Rattle.rules.specs.Slots.{list-of}
-use Rattle.rules.specs.Joined.{join}
 use Rattle.rules.specs.Lines.{Lines}
 use Rattle.rules.specs.Subscription.{Subscription, subscription, items, Proper}
 use Rattle.rules.specs.Relaxation.{KeptBySlot, kept-by-slot, ConsistentRelaxation}
-use Rattle.rules.specs.Decisions.{Decision, Open, Kept, Dropped, is-open, is-kept, is-dropped, DecidedBySlot, decided-by-slot, Agrees, open-items}
+use Rattle.rules.specs.Decisions.{Decision, Open, is-open, is-kept, is-dropped, DecidedBySlot, decided-by-slot, Agrees, open-items}
 use Rattle.rules.specs.KnownBefore.{OrderingKept, OptionKept, KnownFromTheStart, KnownBefore, ordering-kept, option-kept}
 use Rattle.rules.specs.Forced.{OptionDropped, OrderingDropped, NoContradiction, option-dropped, ordering-dropped, decision-of, forced-option, forced-ordering, forced, NoneLeft}
 use Rattle.rules.specs.laws.Tests.{bool-ext}
 use Rattle.rules.specs.laws.Slots.{length-list-of, getD-list-of, list-of-same}
 use Rattle.rules.specs.laws.Joined.{weaken}
 use Rattle.rules.specs.laws.BySlot.{ConsistentBySlot, AgreesBySlot, OnTheSheet}
-use Rattle.rules.specs.laws.Forced.{keeps-kept, drops-dropped, drops-dropped-ordering, least, least-consistent, least-agrees}
+use Rattle.rules.specs.laws.Forced.{keeps-kept, drops-dropped, drops-dropped-ordering, least, least-consistent}
 use Rattle.rules.specs.laws.Computed.{option-kept-out, option-kept-in, option-kept-bound, option-dropped-out, option-dropped-in, ordering-dropped-out, ordering-dropped-in}
 use Rattle.rules.specs.laws.Decisions.{not-decided-is-open, agrees-length, open-items-fall, open-items-split, just-the-kept, just-the-kept-at, length-just-the-kept, take-just-the-kept, drop-just-the-kept}
 use Rattle.rules.specs.laws.OnSlots.{agrees-by-slot, agrees-from-slots, consistent-by-slot, consistent-from-slots, option-on-the-sheet, ordering-on-the-sheet, on-the-sheet}

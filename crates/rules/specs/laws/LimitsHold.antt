@@ -4,18 +4,17 @@ use mathlib.Core.Bool.{Bool, true, false, not, _||_, cond}
 use mathlib.Core.List.{List}
 use Prim.Native.Nat.{ℕ, _+_, _-_, _≤_, _<_}
 use native.Mathlib.Omega.{arith}
-use lib.ListN.{length, getD, take, drop}
+use lib.ListN.{length, getD}
 use lib.Seq.{getD-take, getD-drop}
-use lib.Dec.{T, not-T}
+use lib.Dec.{T}
 use Rattle.rules.specs.Lines.{Lines}
 use Rattle.rules.specs.Subscription.{Subscription, subscription, items, Proper}
 use Rattle.rules.specs.Relaxation.{KeptBySlot, kept-by-slot, ConsistentRelaxation, value-of}
 use Rattle.rules.specs.Decisions.{Decision, Open, is-open, DecidedBySlot, decided-by-slot, Agrees}
 use Rattle.rules.specs.KnownBefore.{ordering-kept, option-kept}
-use Rattle.rules.specs.Forced.{option-dropped, ordering-dropped, forced}
-use Rattle.rules.specs.Limits.{option-open, ordering-open, K, whole-lower, whole-upper, option-kept-lower, option-kept-upper, option-dropped-lower, option-dropped-upper, ordering-kept-lower, ordering-kept-upper, ordering-dropped-lower, ordering-dropped-upper}
-use Rattle.rules.specs.Results.{Limit, no-limit, Limits, option-limit, ordering-limit, limited, limits-of}
-use Rattle.rules.specs.laws.Tests.{or-e}
+use Rattle.rules.specs.Forced.{option-dropped, ordering-dropped}
+use Rattle.rules.specs.Limits.{option-open, ordering-open, whole-lower, whole-upper, option-kept-lower, option-kept-upper, option-dropped-lower, option-dropped-upper, ordering-kept-lower, ordering-kept-upper, ordering-dropped-lower, ordering-dropped-upper}
+use Rattle.rules.specs.Results.{no-limit, option-limit, ordering-limit, limited, limits-of}
 use Rattle.rules.specs.laws.Slots.{getD-list-of}
 use Rattle.rules.specs.laws.BySlot.{ConsistentBySlot, AgreesBySlot}
 use Rattle.rules.specs.laws.Limits.{whole-lower-holds, whole-upper-holds, option-kept-lower-holds, option-kept-upper-holds, option-dropped-upper-holds, ordering-kept-lower-holds, ordering-kept-upper-holds, ordering-dropped-upper-holds}

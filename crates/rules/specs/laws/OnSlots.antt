@@ -1,17 +1,15 @@
 -- A sheet's lists against their reading by slot.
-use mathlib.Core.Path.{_≡_, refl, sym, subst, ap, _∙_, fun-ext}
-use mathlib.Core.Bool.{Bool, true, false, not}
-use mathlib.Core.Logic.{_↔_}
+use mathlib.Core.Path.{_≡_, sym, ap, _∙_}
+use mathlib.Core.Bool.{Bool, false}
 use mathlib.Core.List.{List, [], _∷_}
-use Prim.Native.Nat.{ℕ, zero, suc, _+_, _-_, _≤_, _<_, min}
-use native.Mathlib.Nat.{le-of-suc-le-suc}
+use Prim.Native.Nat.{ℕ, zero, suc, _-_, _<_, min}
 use native.Mathlib.Omega.{arith}
-use lib.ListN.{length, getD, take, drop, set, length-take, length-drop}
+use lib.ListN.{length, getD, take, drop, length-take, length-drop}
 use lib.Dec.{T}
 use Rattle.rules.specs.Lines.{Lines}
-use Rattle.rules.specs.Subscription.{Subscription, subscription, items, Proper}
-use Rattle.rules.specs.Relaxation.{KeptBySlot, kept-by-slot, Relaxation, ConsistentRelaxation}
-use Rattle.rules.specs.Decisions.{Decision, Open, is-open, is-kept, is-dropped, DecidedBySlot, decided-by-slot, Agrees}
+use Rattle.rules.specs.Subscription.{subscription, items, Proper}
+use Rattle.rules.specs.Relaxation.{kept-by-slot, ConsistentRelaxation}
+use Rattle.rules.specs.Decisions.{Decision, Open, is-kept, decided-by-slot, Agrees}
 use Rattle.rules.specs.laws.BySlot.{ConsistentBySlot, AgreesBySlot, OnTheSheet, KeptOnTheSheet}
 use Rattle.rules.specs.laws.Decisions.{agrees-kept, agrees-dropped, agrees-from, agrees-take, agrees-drop, agrees-join}
 

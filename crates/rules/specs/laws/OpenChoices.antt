@@ -3,7 +3,7 @@ use mathlib.Core.Path.{_≡_, refl, sym, subst, ap, _∙_}
 use mathlib.Core.Bool.{Bool, not}
 use mathlib.Core.Logic.{_⊎_, inl, inr}
 use mathlib.Core.List.{List, [], _∷_}
-use Prim.Native.Nat.{ℕ, zero, suc, _+_, _≤_, _<_}
+use Prim.Native.Nat.{ℕ, zero, suc, _+_, _<_}
 use native.Mathlib.Omega.{arith}
 use lib.ListN.{length, getD, take, drop, set}
 use lib.Seq.{getD-take, getD-drop, take-set-lt, take-set-le, drop-set-lt, drop-set-add}
@@ -13,7 +13,7 @@ use Rattle.rules.specs.Subscription.{Subscription, subscription, items, 
 use Rattle.rules.specs.Decisions.{Decision, Open, Kept, Dropped, is-open, is-kept, is-dropped, DecidedBySlot, decided-by-slot}
 use Rattle.rules.specs.KnownBefore.{ordering-kept, option-kept}
 use Rattle.rules.specs.Forced.{NoContradiction, option-dropped, ordering-dropped, forced}
-use Rattle.rules.specs.Results.{Limits, limits-of}
+use Rattle.rules.specs.Results.{limits-of}
 use Rattle.rules.specs.laws.Computed.{option-kept-in, option-kept-out, option-dropped-in, ordering-dropped-in, no-contradiction-in}
 use Rattle.rules.specs.laws.OpenItems.{Stays, GrowsAt, keep-option, drop-option, keep-ordering, drop-ordering}
 use Rattle.rules.specs.laws.OnSlots.{on-the-sheet}

@@ -6,7 +6,6 @@ use Prim.Native.Nat.{ℕ}
 use lib.Dec.{T, not-T}
 use Rattle.rules.specs.Joined.{Joined, base, join}
 use Rattle.rules.specs.Subscription.{Subscription}
-use Rattle.rules.specs.Relaxation.{KeptBySlot}
 use Rattle.rules.specs.Decisions.{Decision, is-kept, is-dropped, DecidedBySlot}
 use Rattle.rules.specs.KnownBefore.{OrderingKept, OptionKept, KnownFromTheStart, KnownBefore}
 use Rattle.rules.specs.Forced.{OptionDropped, OrderingDropped, NoContradiction}

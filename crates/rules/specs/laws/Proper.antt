@@ -1,15 +1,14 @@
 -- A test that finds a sheet's lines proper: for worked cases.
-use mathlib.Core.Path.{_≡_, refl, sym, subst}
-use mathlib.Core.Bool.{Bool, true, false, not, _&&_, _||_}
-use mathlib.Core.Logic.{_⊎_, inl, inr}
+use mathlib.Core.Path.{_≡_, subst}
+use mathlib.Core.Bool.{Bool, true, false, not, _&&_}
 use Prim.Native.Nat.{ℕ, _<_}
 use native.Mathlib.Decide.{ℕ-discrete}
 use lib.ListN.{length}
 use lib.Dec.{T, T-not, not-T, eqb, eqb→eq, eqb-refl, ltb, ltb→lt}
 use Rattle.rules.specs.Slots.{some-below}
 use Rattle.rules.specs.Lines.{Lines}
-use Rattle.rules.specs.Subscription.{Subscription, subscription, Proper}
-use Rattle.rules.specs.laws.Tests.{and-l, and-r, and-i, test}
+use Rattle.rules.specs.Subscription.{subscription, Proper}
+use Rattle.rules.specs.laws.Tests.{and-l, and-r, and-i}
 use Rattle.rules.specs.laws.Slots.{some-in}
 
 module _ (s : Lines) where

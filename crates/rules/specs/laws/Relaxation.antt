@@ -1,23 +1,23 @@
 -- The tests of a relaxation and of its consistency decide what they name.
-use mathlib.Core.Path.{_≡_, refl, sym, subst, ap}
-use mathlib.Core.Bool.{Bool, true, false, not, _&&_, _||_}
+use mathlib.Core.Path.{_≡_, subst}
+use mathlib.Core.Bool.{Bool, true, false, not, _&&_}
 use mathlib.Core.Logic.{_⊎_, inl, inr, _↔_}
-use mathlib.Core.List.{List, [], _∷_, List·Memᴰ}
-use Prim.Native.Nat.{ℕ, zero, suc, _+_, _<_}
-use lib.ListN.{length, getD, take, drop}
+use mathlib.Core.List.{List, List·Memᴰ}
+use Prim.Native.Nat.{ℕ}
+use lib.ListN.{length}
 use lib.Dec.{T, T-not, not-T, eqb, eqb→eq, eqb-refl}
-use Rattle.rules.specs.Slots.{some-below, slots}
+use Rattle.rules.specs.Slots.{some-below}
 use Rattle.rules.specs.Joined.{Joined, base, join, through}
 use Rattle.rules.specs.Lines.{Lines}
 use Rattle.rules.specs.Subscription.{Subscription, subscription, items}
-use Rattle.rules.specs.Relaxation.{KeptBySlot, kept-by-slot, Edge, by-catalogue, by-ordering, Path, one, more, HasBothOptions, NoCycle, Relaxation, Consistent, ConsistentRelaxation}
+use Rattle.rules.specs.Relaxation.{KeptBySlot, kept-by-slot, Edge, by-catalogue, by-ordering, Path, one, more, HasBothOptions, NoCycle, Relaxation, ConsistentRelaxation}
 use Rattle.rules.specs.KnownBefore.{puts-first}
 use Rattle.rules.specs.Sequence.{precedes, kept-slots}
 use Rattle.rules.specs.Results.{lacks-an-option, acyclic, is-relaxation, is-consistent}
 use Rattle.rules.specs.laws.Tests.{and-l, and-r, and-i, or-l, or-r, or-e}
-use Rattle.rules.specs.laws.Slots.{some-in, some-out, slots-in, slots-out}
+use Rattle.rules.specs.laws.Slots.{some-in, some-out, slots-in}
 use Rattle.rules.specs.laws.Joined.{through-sound, through-complete}
-use Rattle.rules.specs.laws.BySlot.{ConsistentBySlot, KeptOnTheSheet, append}
+use Rattle.rules.specs.laws.BySlot.{KeptOnTheSheet, append}
 use Rattle.rules.specs.laws.OnSlots.{kept-on-the-sheet}
 
 -- ---- by slot

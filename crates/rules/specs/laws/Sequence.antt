@@ -8,16 +8,15 @@ use Prim.Native.Nat.{ℕ, zero, suc, _≤_, _<_}
 use native.Mathlib.Nat.{le-antisymm, le-refl}
 use native.Mathlib.Omega.{arith}
 use lib.ListN.{length}
-use lib.Dec.{T, T-not, not-T, ltb, ltb→lt, nltb→le}
+use lib.Dec.{T, T-not, ltb, ltb→lt, nltb→le}
 use Rattle.rules.specs.Slots.{keep-if, slots}
-use Rattle.rules.specs.Joined.{Joined, base, join}
+use Rattle.rules.specs.Joined.{base, join}
 use Rattle.rules.specs.Lines.{Lines}
-use Rattle.rules.specs.Subscription.{Subscription, subscription, items, Proper}
+use Rattle.rules.specs.Subscription.{Subscription, subscription, Proper}
 use Rattle.rules.specs.Relaxation.{KeptBySlot, kept-by-slot, Edge, Path, one, more, Relaxation, ConsistentRelaxation}
-use Rattle.rules.specs.Decisions.{Decision, open-items, full-choice}
+use Rattle.rules.specs.Decisions.{Decision, open-items}
 use Rattle.rules.specs.Sequence.{precedes, without, ready, Sequence, done, place, kept-slots, SequenceOf, Ordered, NoLater}
 use Rattle.rules.specs.Results.{is-consistent, if-ready, smallest-ready, placed-first, placed, numbers-in-sequence, sequence-of-choice, sequence-if-full, sequence-of}
-use Rattle.rules.specs.laws.Tests.{test}
 use Rattle.rules.specs.laws.Slots.{slots-in, slots-out}
 use Rattle.rules.specs.laws.BySlot.{append}
 use Rattle.rules.specs.laws.Decisions.{just-the-kept, full-choice-is, open-has-no-choice}

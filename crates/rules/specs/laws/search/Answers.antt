@@ -1,8 +1,6 @@
 -- What the passes come to on a sheet: an answer to the tolerance, and at tolerance 0 the best one that the tie rule names.
-use mathlib.Core.Path.{_≡_, refl, sym, subst, _∙_}
+use mathlib.Core.Path.{_≡_, refl, sym, subst}
 use mathlib.Core.Bool.{Bool}
-use mathlib.Core.Logic.{_⊎_, inl, inr}
-use mathlib.Core.Option.{Option, none, some}
 use mathlib.Core.List.{List}
 use Prim.Native.Nat.{ℕ, _+_, _≤_, _<_, min}
 use native.Mathlib.Omega.{arith}
@@ -10,12 +8,12 @@ use Rattle.rules.specs.Lines.{Lines}
 use Rattle.rules.specs.Subscription.{items}
 use Rattle.rules.specs.Relaxation.{ConsistentRelaxation, value-of}
 use Rattle.rules.specs.Decisions.{Decision, Agrees, all-open}
-use Rattle.rules.specs.Best.{Best, BestOf, Answer, AnswerTo}
+use Rattle.rules.specs.Best.{Best, BestOf, AnswerTo}
 use Rattle.rules.specs.laws.Decisions.{agrees-all-open}
-use Rattle.rules.specs.laws.Best.{none-kept, length-none-kept, dropping-all-is-consistent}
+use Rattle.rules.specs.laws.Best.{none-kept, dropping-all-is-consistent}
 use Rattle.rules.specs.laws.search.Finds.{WithinTolerance, within-0-is-best, SoFar, holds, Finds, nothing, better}
 use Rattle.rules.specs.laws.search.Valued.{Worth, Valued}
-use Rattle.rules.specs.laws.search.Passes.{from-floor, answer, FoundBest, two-passes, Within, tolerance-pass}
+use Rattle.rules.specs.laws.search.Passes.{from-floor, answer, two-passes, tolerance-pass}
 
 module _ (s : Lines) where
   abbrev fresh : List Decision

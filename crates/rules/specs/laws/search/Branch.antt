@@ -3,11 +3,11 @@ use mathlib.Core.Path.{_≡_, refl, ap}
 use mathlib.Core.Bool.{Bool, true, false, not}
 use mathlib.Core.Logic.{_⊎_, inl, inr}
 use mathlib.Core.List.{List, [], _∷_}
-use Prim.Native.Nat.{ℕ, suc, _<_}
+use Prim.Native.Nat.{suc, _<_}
 use native.Mathlib.Omega.{arith}
 use lib.ListN.{length}
 use lib.Dec.{T}
-use Rattle.rules.specs.Decisions.{Decision, Open, Kept, Dropped, fits, Agrees, open-items}
+use Rattle.rules.specs.Decisions.{Decision, Open, Kept, Dropped, Agrees, open-items}
 use Rattle.rules.specs.Best.{wins-tie}
 
 -- The decision m for the first open item.

@@ -1,14 +1,14 @@
 -- What the passes come to: the best by the tie rule at tolerance 0, and an answer with its ceiling at any tolerance.
-use mathlib.Core.Path.{_≡_, refl, sym, subst}
+use mathlib.Core.Path.{_≡_, sym, subst}
 use mathlib.Core.Bool.{Bool}
 use mathlib.Core.Option.{Option, none, some}
 use mathlib.Core.List.{List}
-use Prim.Native.Nat.{ℕ, suc, _+_, _≤_, _<_, min}
+use Prim.Native.Nat.{ℕ, _+_, _≤_, _<_, min}
 use native.Mathlib.Omega.{arith}
 use Rattle.rules.specs.Decisions.{Decision, Agrees}
 use Rattle.rules.specs.Best.{Best}
-use Rattle.rules.specs.laws.search.Finds.{WithinTolerance, within-0-is-best, SoFar, holds, Finds, nothing, better, finds-cut}
-use Rattle.rules.specs.laws.search.Valued.{Worth, Valued, BestValue, value-best}
+use Rattle.rules.specs.laws.search.Finds.{within-0-is-best, SoFar, holds, Finds, nothing, better, finds-cut}
+use Rattle.rules.specs.laws.search.Valued.{Worth, Valued, value-best}
 
 -- Nothing found yet, and a choice counts from the value g on.
 abbrev pub from-floor : ℕ → SoFar

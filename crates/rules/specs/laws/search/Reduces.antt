@@ -4,16 +4,16 @@ use mathlib.Core.Path.{_≡_, refl, sym, subst, _∙_}
 use mathlib.Core.Bool.{Bool, true, false, not}
 use mathlib.Core.Logic.{_⊎_, inl, inr}
 use mathlib.Core.List.{List}
-use Prim.Native.Nat.{ℕ, suc, _+_, _≤_, _<_}
+use Prim.Native.Nat.{ℕ, _+_, _≤_, _<_}
 use native.Mathlib.Omega.{arith}
 use lib.ListN.{length, getD, set}
 use lib.Dec.{T, leb, leb→le, nleb→lt, not-T}
 use Rattle.rules.specs.Decisions.{Decision, Open, Kept, is-open, Agrees}
-use Rattle.rules.specs.Best.{wins-tie, Best}
+use Rattle.rules.specs.Best.{wins-tie}
 use Rattle.rules.specs.laws.Tests.{test}
 use Rattle.rules.specs.laws.Tie.{tie-transitive, adding-wins-tie}
 use Rattle.rules.specs.laws.Decisions.{agrees-set, agrees-decided, agrees-undecided}
-use Rattle.rules.specs.laws.search.Finds.{WithinTolerance, SoFar, Finds, nothing, better}
+use Rattle.rules.specs.laws.search.Finds.{SoFar, Finds, nothing, better}
 
 module _ (worth : List Bool → ℕ) (Allowed : List Bool → Type 0) (tolerance : ℕ) where
   -- Among what agrees with f stands a choice worth no less than r: r itself, or one before r in the tie order, or one worth more.

@@ -1,5 +1,5 @@
 -- The two passes as functions, over any way of settling a half-decided list: what they need of it, and that they meet their contracts.
-use mathlib.Core.Path.{_≡_, refl, sym, subst, _∙_}
+use mathlib.Core.Path.{_≡_, refl, _∙_}
 use mathlib.Core.Bool.{Bool, true, false, not}
 use mathlib.Core.Option.{Option, none, some}
 use mathlib.Core.List.{List}

@@ -1,12 +1,12 @@
 -- The best value alone: the contract of a pass that takes up open items in any order, from a floor, and may stop at a given value.
 use mathlib.Core.Path.{_≡_, refl, sym, subst, _∙_}
-use mathlib.Core.Bool.{Bool, true, false, not}
-use mathlib.Core.Logic.{_⊎_, inl, inr, _↔_}
+use mathlib.Core.Bool.{Bool, false}
+use mathlib.Core.Logic.{_⊎_, inl, inr}
 use mathlib.Core.List.{List}
 use Prim.Native.Nat.{ℕ, suc, _+_, _≤_, _<_}
 use native.Mathlib.Omega.{arith}
 use lib.ListN.{getD, set}
-use lib.Dec.{T, leb, leb→le, nleb→lt, not-T}
+use lib.Dec.{T, not-T}
 use Rattle.rules.specs.Decisions.{Decision, Open, Kept, Dropped, is-open, Agrees, open-items}
 use Rattle.rules.specs.laws.Tests.{test}
 use Rattle.rules.specs.laws.Decisions.{agrees-decided, agrees-undecided, just-the-kept, just-the-kept-agrees, only-choice}

@@ -10,10 +10,11 @@ use lib.Dec.{T, not-T}
 use Rattle.rules.specs.Slots.{list-of}
 use Rattle.rules.specs.Lines.{Lines}
 use Rattle.rules.specs.Subscription.{Subscription, subscription, items, Proper}
-use Rattle.rules.specs.Relaxation.{KeptBySlot, kept-by-slot, ConsistentRelaxation}
+use Rattle.rules.specs.Relaxation.{KeptBySlot, kept-by-slot, value, ConsistentRelaxation, value-of}
 use Rattle.rules.specs.Decisions.{Decision, Open, is-open, is-kept, is-dropped, DecidedBySlot, decided-by-slot, Agrees, open-items}
 use Rattle.rules.specs.KnownBefore.{OrderingKept, OptionKept, KnownFromTheStart, KnownBefore, ordering-kept, option-kept}
 use Rattle.rules.specs.Forced.{OptionDropped, OrderingDropped, NoContradiction, option-dropped, ordering-dropped, decision-of, forced-option, forced-ordering, forced, NoneLeft}
+use Rattle.rules.specs.Limits.{K}
 use Rattle.rules.specs.laws.Tests.{bool-ext}
 use Rattle.rules.specs.laws.Slots.{length-list-of, getD-list-of, list-of-same}
 use Rattle.rules.specs.laws.Joined.{weaken}
@@ -164,22 +165,29 @@ module _ (s : Lines) (ps : Proper s) (d : List Decision) (size : length d ≡ it
         ordering u l t = let k = length-drop n d in let o = open-from (ordering-kept v b u) (ordering-dropped v b u) (subst (λ w. T (is-open w)) (forced-ordering-at u (omega arith)) t) in
             not-decided-is-open (b .ordering u) (λ h. o .0 h) (λ h. o .1 (ordering-dropped-in v b on u (OrderingDropped.given h)))
 
-    -- Keeping just the kept is a consistent relaxation, and it agrees.
-    pub least-is-consistent : ConsistentRelaxation s (just-the-kept (forced s d))
+    -- Keeping just the kept, slot by slot: what the rules keep.
+    least-option : (i : ℕ) → kept-by-slot s (just-the-kept (forced s d)) .option i ≡ option-kept v b i
     unfolding kept-by-slot decided-by-slot
+    least-option i = ap (λ l. getD l i false) (take-just-the-kept n (forced s d)) ∙ just-the-kept-at (take n (forced s d)) i
+        ∙ bool-ext (is-kept (b′ .option i)) (option-kept v b i) (λ t. option-kept-in v b on i (option-kept-is-told i t)) (λ t. told-option-is-kept i (option-kept-out v b i t))
+
+    least-ordering : (u : ℕ) → kept-by-slot s (just-the-kept (forced s d)) .ordering u ≡ ordering-kept v b u
+    unfolding kept-by-slot decided-by-slot ordering-kept
+    least-ordering u = ap (λ l. getD l u false) (drop-just-the-kept n (forced s d)) ∙ just-the-kept-at (drop n (forced s d)) u
+        ∙ bool-ext (is-kept (b′ .ordering u)) (is-kept (b .ordering u)) (ordering-kept-is-told u) (told-ordering-is-kept u)
+
+    least-by-slot : kept-by-slot s (just-the-kept (forced s d)) ≡ least v b (option-kept v b) (option-kept-out v b) (option-kept-in v b on) fine
+    unfolding ordering-kept
+    least-by-slot = λ i. record { option = fun-ext least-option i; ordering = fun-ext least-ordering i }
+
+    -- It is a consistent relaxation, and it is worth K.
+    pub least-is-consistent : ConsistentRelaxation s (just-the-kept (forced s d))
     least-is-consistent = consistent-from-slots s (just-the-kept (forced s d)) (length-just-the-kept (forced s d) ∙ forced-length)
         (subst (λ c. ConsistentBySlot v c) (sym least-by-slot) (least-consistent v b (option-kept v b) (option-kept-out v b) (option-kept-in v b on) fine))
-      where
-        option : (i : ℕ) → kept-by-slot s (just-the-kept (forced s d)) .option i ≡ option-kept v b i
-        option i = ap (λ l. getD l i false) (take-just-the-kept n (forced s d)) ∙ just-the-kept-at (take n (forced s d)) i
-            ∙ bool-ext (is-kept (b′ .option i)) (option-kept v b i) (λ t. option-kept-in v b on i (option-kept-is-told i t)) (λ t. told-option-is-kept i (option-kept-out v b i t))
 
-        ordering : (u : ℕ) → kept-by-slot s (just-the-kept (forced s d)) .ordering u ≡ is-kept (b .ordering u)
-        ordering u = ap (λ l. getD l u false) (drop-just-the-kept n (forced s d)) ∙ just-the-kept-at (drop n (forced s d)) u
-            ∙ bool-ext (is-kept (b′ .ordering u)) (is-kept (b .ordering u)) (ordering-kept-is-told u) (told-ordering-is-kept u)
-
-        least-by-slot : kept-by-slot s (just-the-kept (forced s d)) ≡ least v b (option-kept v b) (option-kept-out v b) (option-kept-in v b on) fine
-        least-by-slot = λ i. record { option = fun-ext option i; ordering = fun-ext ordering i }
+    pub least-is-worth-K : value-of s (just-the-kept (forced s d)) ≡ K v b
+    unfolding value-of value K ordering-kept
+    least-is-worth-K = ap (value v) least-by-slot
 
     -- ---- forcing again: the rules say nothing new
     kept-again : (i : ℕ) → OptionKept v b′ i → OptionKept v b i

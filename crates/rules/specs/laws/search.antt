@@ -4,4 +4,5 @@ pub mod Reduces
 pub mod Valued
 pub mod Passes
 pub mod Seek
+pub mod Steps
 pub mod Answers

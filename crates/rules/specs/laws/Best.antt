@@ -9,10 +9,12 @@ use native.Mathlib.Omega.{arith}
 use lib.ListN.{length, getD, take, drop}
 use lib.Dec.{T, leb, leb→le, nleb→lt}
 use Rattle.rules.specs.Lines.{Lines}
-use Rattle.rules.specs.Subscription.{subscription, items}
-use Rattle.rules.specs.Relaxation.{kept-by-slot, Edge, by-catalogue, by-ordering, Path, one, more, ConsistentRelaxation, value-of}
+use Rattle.rules.specs.Slots.{pick}
+use Rattle.rules.specs.Subscription.{Subscription, subscription, items}
+use Rattle.rules.specs.Relaxation.{kept-by-slot, Edge, by-catalogue, by-ordering, Path, one, more, value, ConsistentRelaxation, value-of}
 use Rattle.rules.specs.Best.{wins-tie, Best, BestOf, Answer, AnswerTo}
 use Rattle.rules.specs.Results.{is-consistent, with-item, better-of, first-best, best-of, best-value, answer-at-nought}
+use Rattle.rules.specs.laws.Sums.{sum-cong, over-none}
 use Rattle.rules.specs.laws.Relaxation.{consistent-in, consistent-out}
 use Rattle.rules.specs.laws.Tie.{best-unique}
 
@@ -140,6 +142,16 @@ module _ (s : Lines) where
       no-path : {i j : ℕ} → Path (subscription s) (kept-by-slot s (none-kept (items s))) i j → ⊥
       no-path (one {i = i} {j = j} e) = no-edge i j e
       no-path (more {i = i} {j = j} e p) = no-edge i j e
+
+  pub dropping-all-is-worth-nothing : value-of s (none-kept (items s)) ≡ 0
+  unfolding value-of value kept-by-slot
+  dropping-all-is-worth-nothing =
+      let e = sum-cong (v .option-count) _ _ (λ i _. ap (λ b. pick b (v .weight i)) (none-in-take (length (s .options)) (items s) i)) in
+      let f = sum-cong (v .ordering-count) _ _ (λ u _. ap (λ b. pick b (v .ordering-weight u)) (none-in-drop (length (s .options)) (items s) u)) in
+      let x = over-none (v .option-count) (v .weight) in let y = over-none (v .ordering-count) (v .ordering-weight) in omega arith
+    where
+      v : Subscription
+      v = subscription s
 
   -- THE BEST RELAXATION, of every sheet.
   pub best-of-is-best : BestOf s (best-of s)

@@ -1,0 +1,37 @@
+-- What catalogue lines say about subscribed options.
+use mathlib.Core.Path.{_≡_}
+use mathlib.Core.Bool.{Bool, true, false, _&&_, _||_}
+use mathlib.Core.List.{List}
+use Prim.Native.Nat.{ℕ, _<_}
+use lib.ListN.{getD}
+use lib.Dec.{eqb}
+use Rattle.rules.specs.Slots.{slots, list-of}
+use Rattle.rules.specs.Lines.{CatalogueLine, catalogue-puts-before, puts-before}
+use Rattle.rules.specs.Limits.{A}
+use Rattle.rows.specs.Bits.{with}
+use Rattle.rows.specs.Sets.{cell}
+use Rattle.rules.specs.Lines.{C, X}
+
+-- A catalogue line by its letter: 67 is C, 88 is X.
+abbrev pub line-by : Bool → ℕ → ℕ → CatalogueLine
+line-by true x y = X x y
+line-by false x y = C x y
+
+abbrev pub line-of : ℕ → ℕ → ℕ → CatalogueLine
+line-of letter x y = line-by (eqb letter 88) x y
+
+-- The first k lines of the catalogue.
+abbrev pub catalogue-of : (letters befores afters : List ℕ) → ℕ → List CatalogueLine
+catalogue-of letters befores afters k = list-of k (λ l. line-of (getD letters l 0) (getD befores l 0) (getD afters l 0))
+
+-- The table with slot i before slot j in it, if both are slots.
+pub record WithPair (n : ℕ) (t : List ℕ) (i j : ℕ) (r : List ℕ) : Type 0 where
+  pub at : (p q : ℕ) → p < n → q < n → cell r p q ≡ (cell t p q || (eqb i p && eqb j q))
+
+-- The table with what one line says.
+pub record WithLine (n : ℕ) (numbers t : List ℕ) (line : CatalogueLine) (r : List ℕ) : Type 0 where
+  pub at : (p q : ℕ) → p < n → q < n → cell r p q ≡ (cell t p q || puts-before (getD numbers p 0) (getD numbers q 0) line)
+
+-- The table says of two slots what the first k lines say of their options.
+pub record SaysCatalogue (n : ℕ) (numbers letters befores afters : List ℕ) (k : ℕ) (r : List ℕ) : Type 0 where
+  pub at : (p q : ℕ) → p < n → q < n → cell r p q ≡ catalogue-puts-before (catalogue-of letters befores afters k) (getD numbers p 0) (getD numbers q 0)

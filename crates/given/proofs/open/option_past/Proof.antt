@@ -1,0 +1,74 @@
+-- Each turn adds one entry to the question: is it past the count, and not open?
+use mathlib.Core.Path.{_≡_, refl, _∙_}
+use mathlib.Core.Bool.{not, _&&_}
+use Prim.Native.Nat.{_-_, _≤_}
+use native.Mathlib.Nat.{le-antisymm}
+use native.Mathlib.Omega.{arith}
+use borrow.Author.Needs.{needs}
+use lib.ListN.{getD}
+use lib.Dec.{leb}
+use Rattle.rules.specs.Slots.{some-below}
+use Rattle.rules.specs.Decisions.{is-open}
+use Rattle.rows.specs.laws.Slots.{some-step, some-end}
+use Rattle.given.specs.Given.{decided, undecided, some-past}
+use Rattle.given.proofs.open.option_past.Statement.{statement}
+use Rattle.given.proofs.open.option_past.Tie as tie
+
+abbrev Inv-loop : tie.InvT-loop
+Inv-loop n d r₀ i₀ r i = (i ≤ 32) × (r ≡ some-below i (λ j. leb n j && not (is-open (decided (getD d j undecided)))))
+
+abbrev μ-loop : tie.MeasureT-loop
+μ-loop n d r₀ i₀ r i = 32 - i
+
+loop-holds : tie.Need-loop-holds Inv-loop μ-loop
+unfolding some-below
+loop-holds c = (omega arith, refl)
+
+array-copy-out-c : tie.Need-array-copy-out-c Inv-loop μ-loop
+array-copy-out-c c = search needs
+
+is-open-requires : tie.Need-is-open-requires Inv-loop μ-loop
+is-open-requires c κs = search needs
+
+opposite-requires : tie.Need-opposite-requires Inv-loop μ-loop
+opposite-requires c κs = search needs
+
+is-past-requires : tie.Need-is-past-requires Inv-loop μ-loop
+is-past-requires c κs = search needs
+
+both-requires : tie.Need-both-requires Inv-loop μ-loop
+both-requires c κs = search needs
+
+either-requires : tie.Need-either-requires Inv-loop μ-loop
+either-requires c κs = search needs
+
+add-i : tie.Need-add-i Inv-loop μ-loop
+add-i c = search needs
+
+loop-less : tie.Need-loop-less Inv-loop μ-loop
+loop-less c = omega arith
+
+loop-again : tie.Need-loop-again Inv-loop μ-loop
+loop-again c = (omega arith, some-step _ (c .before .before .before .before .before .before .before .loop .inv .1) (c .before .both .ensures ∙ rw (c .before .before .is-past .ensures, c .before .before .before .opposite .ensures, c .before .before .before .before .is-open .ensures) refl) (c .either .ensures))
+
+returns : tie.Need-returns Inv-loop μ-loop
+unfolding some-past
+returns c = some-end _ (c .before .loop .inv .1) (le-antisymm (c .before .loop .inv .0) (c .loop-test .left))
+
+pub option-past-spec : {M : Type 1} → statement M
+option-past-spec =
+    tie.close
+    (tie.spec
+    Inv-loop
+    μ-loop
+    loop-holds
+    array-copy-out-c
+    is-open-requires
+    opposite-requires
+    is-past-requires
+    both-requires
+    either-requires
+    add-i
+    loop-less
+    loop-again
+    returns)

@@ -1,0 +1,58 @@
+-- Each turn puts one slot in if the entry at it says so.
+use Prim.Native.Nat.{_-_, _≤_}
+use native.Mathlib.Nat.{le-antisymm}
+use native.Mathlib.Omega.{arith}
+use borrow.Author.Needs.{needs}
+use lib.ListN.{getD}
+use Rattle.rules.specs.Decisions.{is-dropped}
+use Rattle.rules.specs.Limits.{M}
+use Rattle.rows.specs.Sets.{Holds}
+use Rattle.rows.specs.laws.Sets.{holds-none, holds-step, holds-end}
+use Rattle.given.specs.Given.{decided, undecided}
+use Rattle.given.proofs.sets.orderings_dropped.Statement.{statement}
+use Rattle.given.proofs.sets.orderings_dropped.Tie as tie
+
+abbrev Inv-loop : tie.InvT-loop
+Inv-loop m d k₀ u₀ k u = (u ≤ m) × Holds k u (λ j. is-dropped (decided (getD d j undecided)))
+
+abbrev μ-loop : tie.MeasureT-loop
+μ-loop m d k₀ u₀ k u = m - u
+
+loop-holds : tie.Need-loop-holds Inv-loop μ-loop
+loop-holds c = (omega arith, holds-none _)
+
+array-copy-out-c : tie.Need-array-copy-out-c Inv-loop μ-loop
+array-copy-out-c c = search needs
+
+is-dropped-requires : tie.Need-is-dropped-requires Inv-loop μ-loop
+is-dropped-requires c κs = search needs
+
+put64-if-requires : tie.Need-put64-if-requires Inv-loop μ-loop
+put64-if-requires c κs = search needs
+
+add-u : tie.Need-add-u Inv-loop μ-loop
+add-u c = search needs
+
+loop-less : tie.Need-loop-less Inv-loop μ-loop
+loop-less c = omega arith
+
+loop-again : tie.Need-loop-again Inv-loop μ-loop
+loop-again c = (omega arith, holds-step _ (c .before .before .before .before .loop .inv .1) (c .before .is-dropped .ensures) (c .put64-if .ensures))
+
+returns : tie.Need-returns Inv-loop μ-loop
+returns c = holds-end (c .before .loop .inv .1) (le-antisymm (c .before .loop .inv .0) (c .loop-test .left))
+
+pub orderings-dropped-spec : {M : Type 1} → statement M
+orderings-dropped-spec =
+    tie.close
+    (tie.spec
+    Inv-loop
+    μ-loop
+    loop-holds
+    array-copy-out-c
+    is-dropped-requires
+    put64-if-requires
+    add-u
+    loop-less
+    loop-again
+    returns)

@@ -1,0 +1,15 @@
+-- Kept comes before dropped, as in `decision-of`.
+use Rattle.limits.proofs.whole.decided.Statement.{statement}
+use Rattle.limits.proofs.whole.decided.Tie as tie
+
+returns : tie.Need-returns
+returns c = rw (c .if1 .taken)
+
+returns-2 : tie.Need-returns-2
+returns-2 c = rw (c .before .if1 .left, c .if2 .taken)
+
+returns-3 : tie.Need-returns-3
+returns-3 c = rw (c .before .if1 .left, c .if2 .left)
+
+pub decided-spec : {M : Type 1} → statement M
+decided-spec = tie.close (tie.spec returns returns-2 returns-3)

@@ -1,0 +1,61 @@
+-- Each turn writes one entry.
+use mathlib.Core.Path.{_≡_, ap, _∙_}
+use Prim.Native.Nat.{_-_, _≤_}
+use native.Mathlib.Nat.{le-antisymm}
+use native.Mathlib.Omega.{arith}
+use borrow.Author.Needs.{needs}
+use Rattle.rules.specs.Results.{option-limit}
+use Rattle.limits.specs.Cells.{no-limit, option-limit-in}
+use Rattle.limits.specs.Filled.{filled}
+use Rattle.limits.specs.laws.Filled.{filled-none, filled-step}
+use Rattle.limits.proofs.whole.option_limits.Statement.{statement}
+use Rattle.limits.proofs.whole.option_limits.Tie as tie
+
+abbrev Inv-loop : tie.InvT-loop
+Inv-loop h first second w b n m l₀ i₀ l i = (i ≤ n) × (l ≡ filled 32 i (option-limit-in h n m first second w b) no-limit)
+
+abbrev μ-loop : tie.MeasureT-loop
+μ-loop h first second w b n m l₀ i₀ l i = n - i
+
+no-limit-requires : tie.Need-no-limit-requires Inv-loop μ-loop
+no-limit-requires c κs = search needs
+
+loop-holds : tie.Need-loop-holds Inv-loop μ-loop
+loop-holds c = (omega arith, rw (c .no-limit .ensures) (filled-none 32 _ _))
+
+option-limit-requires : tie.Need-option-limit-requires Inv-loop μ-loop
+option-limit-requires c κs = search needs
+
+mul-l : tie.Need-mul-l Inv-loop μ-loop
+mul-l c = search needs
+
+array-set-from-l : tie.Need-array-set-from-l Inv-loop μ-loop
+array-set-from-l c = search needs
+
+add-i : tie.Need-add-i Inv-loop μ-loop
+add-i c = search needs
+
+loop-less : tie.Need-loop-less Inv-loop μ-loop
+loop-less c = omega arith
+
+loop-again : tie.Need-loop-again Inv-loop μ-loop
+loop-again c = (omega arith, filled-step 32 _ _ (c .before .before .loop .inv .1) (omega arith) (c .option-limit .ensures))
+
+returns : tie.Need-returns Inv-loop μ-loop
+returns c = c .before .loop .inv .1 ∙ ap (λ k. filled 32 k (option-limit-in (c .before .before .before .before .before .before .before .args .h) (c .before .before .before .before .before .before .before .args .n) (c .before .before .before .before .before .before .before .args .m) (c .before .before .before .before .before .before .before .args .first .now) (c .before .before .before .before .before .before .before .args .second .now) (c .before .before .before .before .before .before .before .args .weights .now) (c .before .before .before .before .before .before .before .args .ordering-weights .now)) no-limit) (le-antisymm (c .before .loop .inv .0) (c .loop-test .left))
+
+pub option-limits-spec : {M : Type 1} → statement M
+option-limits-spec =
+    tie.close
+    (tie.spec
+    Inv-loop
+    μ-loop
+    no-limit-requires
+    loop-holds
+    option-limit-requires
+    mul-l
+    array-set-from-l
+    add-i
+    loop-less
+    loop-again
+    returns)

@@ -1,0 +1,10 @@
+pub mod Weights
+pub mod Charges
+pub mod Half
+pub mod Cells
+pub mod Filled
+pub mod Table
+pub mod Limited
+pub mod Padded
+pub mod Answer
+pub mod Promises

@@ -1,0 +1,5 @@
+pub mod Lines
+pub mod Read
+pub mod Result
+pub mod Stored
+pub mod Verdict

@@ -1,0 +1,18 @@
+use Rattle.rows.specs.Bits.{has}
+use borrow.Author.Needs.{needs}
+use Rattle.rows.proofs.get64.Statement.{statement}
+use Rattle.rows.proofs.get64.Tie as tie
+use Rattle.rows.proofs.get64.Reads as reads
+use Rattle.rows.proofs.get64.Lts as lts
+
+-- src/lib.rt:64:6
+shr-result : tie.Need-shr-result
+shr-result c = search needs
+
+-- src/lib.rt:60:1
+returns : tie.Need-returns
+unfolding has
+returns c = search needs
+
+pub get64-spec : {M : Type 1} → statement M
+get64-spec = tie.close (tie.spec shr-result returns)

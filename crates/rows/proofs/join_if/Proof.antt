@@ -1,0 +1,24 @@
+use Rattle.rows.specs.Bits.{joined, joined-if}
+use borrow.Author.Needs.{needs}
+use Rattle.rows.proofs.join_if.Statement.{statement}
+use Rattle.rows.proofs.join_if.Tie as tie
+use Rattle.rows.proofs.join_if.Reads as reads
+use Rattle.rows.proofs.join_if.Lts as lts
+use Rattle.rows.proofs.join.Reads as join-reads
+
+-- src/lib.rt:46:9
+join-requires : tie.Need-join-requires
+join-requires c κs = search needs
+
+-- src/lib.rt:42:1
+returns : tie.Need-returns
+unfolding joined-if
+returns c = rw (c .before .if1 .taken) (c .join .ensures)
+
+-- src/lib.rt:42:1
+returns-2 : tie.Need-returns-2
+unfolding joined-if
+returns-2 c = rw (c .if1 .left)
+
+pub join-if-spec : {M : Type 1} → statement M
+join-if-spec = tie.close (tie.spec join-requires returns returns-2)

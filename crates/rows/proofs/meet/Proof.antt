@@ -1,0 +1,14 @@
+use Rattle.rows.specs.Bits.{met}
+use borrow.Author.Needs.{needs}
+use Rattle.rows.proofs.meet.Statement.{statement}
+use Rattle.rows.proofs.meet.Tie as tie
+use Rattle.rows.proofs.meet.Reads as reads
+use Rattle.rows.proofs.meet.Lts as lts
+
+-- src/lib.rt:53:1
+returns : tie.Need-returns
+unfolding met
+returns c = search needs
+
+pub meet-spec : {M : Type 1} → statement M
+meet-spec = tie.close (tie.spec returns)

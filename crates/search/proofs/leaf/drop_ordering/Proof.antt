@@ -1,0 +1,18 @@
+-- One set has one slot more; the others are handed on.
+use borrow.Author.Needs.{needs}
+use Rattle.search.proofs.leaf.drop_ordering.Statement.{statement}
+use Rattle.search.proofs.leaf.drop_ordering.Tie as tie
+use Rattle.search.proofs.leaf.drop_ordering.Reads as reads
+use Rattle.search.proofs.leaf.drop_ordering.Lts as lts
+use Rattle.rows.proofs.put64.Reads as put64-reads
+
+-- src/leaf.rt:90:28
+put64-requires : tie.Need-put64-requires
+put64-requires c κs = search needs
+
+-- src/leaf.rt:82:1
+returns : tie.Need-returns
+returns c = rw (c .put64 .ensures)
+
+pub drop-ordering-spec : {M : Type 1} → statement M
+drop-ordering-spec = tie.close (tie.spec put64-requires returns)

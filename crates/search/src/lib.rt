@@ -1,0 +1,9 @@
+// The best relaxation of a sheet, and at any tolerance a value and a ceiling.
+mod branch;
+mod first;
+mod found;
+mod leaf;
+mod sheet_search;
+
+pub use sheet_search::Searched;
+pub use sheet_search::search;

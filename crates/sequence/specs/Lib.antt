@@ -1,0 +1,6 @@
+pub mod Edges
+pub mod Next
+pub mod Padded
+pub mod Sequenced
+pub mod Answer
+pub mod laws

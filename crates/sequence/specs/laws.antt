@@ -1,0 +1,9 @@
+pub mod Edges
+pub mod Next
+pub mod Slots
+pub mod Placed
+pub mod Padded
+pub mod Same
+pub mod Sequenced
+pub mod Answer
+pub mod Promises

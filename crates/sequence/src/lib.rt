@@ -1,0 +1,8 @@
+// The sequence of a chosen relaxation.
+mod answer;
+mod edges;
+mod place;
+mod whole;
+
+pub use answer::Sequenced;
+pub use answer::sequence;

@@ -1,0 +1,11 @@
+pub mod DecimalLaws
+pub mod GrammarLaws
+pub mod LengthLaws
+pub mod LineEndLaws
+pub mod NumberLaws
+pub mod PassOverLaws
+pub mod ReadBackLaws
+pub mod ScanTurnLaws
+pub mod SplitLaws
+pub mod TextLaws
+pub mod TurnLaws

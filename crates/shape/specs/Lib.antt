@@ -1,0 +1,7 @@
+pub mod Grammar
+pub mod Line
+pub mod LineText
+pub mod Number
+pub mod Scan
+pub mod Shape
+pub mod Trailer

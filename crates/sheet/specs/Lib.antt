@@ -1,0 +1,9 @@
+pub mod Answer
+pub mod Decisions
+pub mod IsRecorded
+pub mod Judge
+pub mod Limits
+pub mod Lines
+pub mod Recorded
+pub mod Sheet
+pub mod Text

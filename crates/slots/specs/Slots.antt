@@ -1,0 +1,22 @@
+-- From catalogue numbers to slots.
+use mathlib.Core.Path.{_≡_}
+use mathlib.Core.List.{List}
+use Prim.Native.Nat.{ℕ, _≤_, _<_}
+use lib.ListN.{length, getD}
+use lib.Dec.{eqb}
+use Rattle.rules.specs.Slots.{slots}
+
+-- "No option subscribed twice": the first n numbers differ.
+pub record NumbersDiffer (n : ℕ) (numbers : List ℕ) : Type 0 where
+  pub size : n ≤ length numbers
+  pub distinct : (x y : ℕ) → x < n → y < n → getD numbers x 0 ≡ getD numbers y 0 → x ≡ y
+
+-- r is the slot at which the number x stands, or n.
+pub record SlotOf (n : ℕ) (numbers : List ℕ) (x r : ℕ) : Type 0 where
+  pub bound : r ≤ n
+  pub at : (i : ℕ) → i < n → eqb x (getD numbers i 0) ≡ eqb r i
+
+-- The slots of the first m numbers of a list.
+pub record SlotsOf (n m : ℕ) (numbers ends r : List ℕ) : Type 0 where
+  pub size : length r ≡ 64
+  pub at : (u : ℕ) → u < m → SlotOf n numbers (getD ends u 0) (getD r u 0)

@@ -1,0 +1,56 @@
+-- Safe and ending: the loop counts up to a bound.
+use Prim.Native.Nat.{_-_, _≤_}
+use native.Mathlib.Omega.{arith}
+use borrow.Author.Needs.{needs}
+use lib.ListN.{set}
+use Rattle.trials.proofs.expected.clashing.Statement.{statement}
+use Rattle.trials.proofs.expected.clashing.Tie as tie
+
+abbrev Inv-loop : tie.InvT-loop
+Inv-loop options «open» beside set₀ i₀ set i = i ≤ 4
+
+abbrev μ-loop : tie.MeasureT-loop
+μ-loop options «open» beside set₀ i₀ set i = 4 - i
+
+loop-holds : tie.Need-loop-holds Inv-loop μ-loop
+loop-holds c = omega arith
+
+mul-row : tie.Need-mul-row Inv-loop μ-loop
+mul-row c = search needs
+
+array-read-row : tie.Need-array-read-row Inv-loop μ-loop
+array-read-row c = search needs
+
+holds-requires : tie.Need-holds-requires Inv-loop μ-loop
+holds-requires c κs = search needs
+
+bit-requires : tie.Need-bit-requires Inv-loop μ-loop
+bit-requires c κs = search needs
+
+add-i : tie.Need-add-i Inv-loop μ-loop
+add-i c = search needs
+
+loop-less : tie.Need-loop-less Inv-loop μ-loop
+loop-less c = omega arith
+
+loop-again : tie.Need-loop-again Inv-loop μ-loop
+loop-again c = omega arith
+
+returns : tie.Need-returns Inv-loop μ-loop
+returns c = search needs
+
+pub clashing-spec : {M : Type 1} → statement M
+clashing-spec =
+    tie.close
+    (tie.spec
+    Inv-loop
+    μ-loop
+    loop-holds
+    mul-row
+    array-read-row
+    holds-requires
+    bit-requires
+    add-i
+    loop-less
+    loop-again
+    returns)

@@ -1,0 +1,4 @@
+pub mod PutLaws
+pub mod RoundTrip
+pub mod SectionLaws
+pub mod WriteLaws

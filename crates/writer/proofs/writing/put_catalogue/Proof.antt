@@ -1,0 +1,112 @@
+-- Storing all lines is storing those from i on into the buffer as it stands.
+use Prim.Native.Nat.{ℕ, _≤_, _+_, _-_}
+use mathlib.Core.Path.{_≡_, refl, sym, ap, _∙_}
+use mathlib.Core.List.{List, [], _∷_}
+use native.Mathlib.Omega.{arith}
+use lib.ListN.{length, getD}
+use Rattle.shape.specs.LineText.{line-text}
+use Rattle.sheet.specs.Text.{catalogue-text}
+use Rattle.writer.specs.Write.{put}
+use Rattle.writer.proofs.PutLaws.{put-length, put-none}
+use Rattle.writer.proofs.SectionLaws.{less-none, first-length, put-step, catalogue-first, catalogue-none}
+use Rattle.writer.proofs.writing.put_catalogue.Statement.{statement}
+use Rattle.writer.proofs.writing.put_catalogue.Tie as tie
+use Rattle.writer.proofs.writing.put_catalogue.Reads as reads
+use Rattle.writer.proofs.writing.put_catalogue.Lts as lts
+use Rattle.writer.proofs.print.put_two.Reads as put-two-reads
+
+abbrev Inv-loop : tie.InvT-loop
+Inv-loop out₀ at letters befores afters n i₀ p₀ out i p = (i ≤ n) × ((length out ≡ length out₀) × ((put at (catalogue-text n 0 letters befores afters) out₀ ≡ put p (catalogue-text (n - i) i letters befores afters) out) × (at + length (catalogue-text n 0 letters befores afters) ≡ p + length (catalogue-text (n - i) i letters befores afters))))
+
+abbrev μ-loop : tie.MeasureT-loop
+μ-loop out₀ at letters befores afters n i₀ p₀ out i p = n - i
+
+-- src/writing.rt:115:5
+loop-holds : tie.Need-loop-holds Inv-loop μ-loop
+loop-holds c = (omega arith, (refl, (rw less-none, rw less-none)))
+
+-- src/writing.rt:116:17
+shared-slice-read-c : tie.Need-shared-slice-read-c Inv-loop μ-loop
+shared-slice-read-c c = omega arith
+
+-- src/writing.rt:117:17
+shared-slice-read-a : tie.Need-shared-slice-read-a Inv-loop μ-loop
+shared-slice-read-a c = omega arith
+
+-- src/writing.rt:117:17
+cast-a : tie.Need-cast-a Inv-loop μ-loop
+cast-a c = omega (arith, c .shared-slice-known5 .given (c .before .before .before .loop .i))
+
+-- src/writing.rt:118:17
+shared-slice-read-b : tie.Need-shared-slice-read-b Inv-loop μ-loop
+shared-slice-read-b c = omega arith
+
+-- src/writing.rt:118:17
+cast-b : tie.Need-cast-b Inv-loop μ-loop
+cast-b c = omega (arith, c .shared-slice-known6 .given (c .before .before .before .before .loop .i))
+
+-- src/writing.rt:119:9
+put-two-requires : tie.Need-put-two-requires Inv-loop μ-loop
+put-two-requires c κs = let g = c .before .before .before .before .before .before .before .before .before .before .args in
+    let a = c .before .before .before .before .before .loop in
+    let line = line-text (getD (g .letters .now) (a .i) 0) (getD (g .befores .now) (a .i) 0 ∷ getD (g .afters .now) (a .i) 0 ∷ []) in
+    let rest = catalogue-text (g .n - (a .i + 1)) (a .i + 1) (g .letters .now) (g .befores .now) (g .afters .now) in
+    let whole = catalogue-text (g .n - a .i) (a .i) (g .letters .now) (g .befores .now) (g .afters .now) in
+    let e = catalogue-first (g .n) (a .i) (g .letters .now) (g .befores .now) (g .afters .now) (c .before .before .before .before .loop-test .taken) in
+    let l = first-length line rest whole e in
+    omega (arith, l, a .inv, c .before .before .before .before .before .before .before .before .before .before .pre)
+
+-- src/writing.rt:120:9
+add-i : tie.Need-add-i Inv-loop μ-loop
+add-i c = omega arith
+
+-- src/writing.rt:115:5
+loop-less : tie.Need-loop-less Inv-loop μ-loop
+loop-less c = omega arith
+
+-- src/writing.rt:115:5
+loop-again : tie.Need-loop-again Inv-loop μ-loop
+loop-again c = let g = c .before .before .before .before .before .before .before .before .before .before .before .before .before .args in
+    let a = c .before .before .before .before .before .before .before .before .loop in
+    let line = line-text (getD (g .letters .now) (a .i) 0) (getD (g .befores .now) (a .i) 0 ∷ getD (g .afters .now) (a .i) 0 ∷ []) in
+    let rest = catalogue-text (g .n - (a .i + 1)) (a .i + 1) (g .letters .now) (g .befores .now) (g .afters .now) in
+    let whole = catalogue-text (g .n - a .i) (a .i) (g .letters .now) (g .befores .now) (g .afters .now) in
+    let e = catalogue-first (g .n) (a .i) (g .letters .now) (g .befores .now) (g .afters .now) (c .before .before .before .before .before .before .before .loop-test .taken) in
+    let l = first-length line rest whole e in (
+      omega (arith, a .inv, c .before .before .before .before .before .before .before .loop-test .taken),
+      (
+        ap length (c .before .before .put-two .ensures .0) ∙ put-length _ _ _ ∙ a .inv .1 .0,
+        (a .inv .1 .1 .0 ∙ put-step _ _ line rest whole _ _ e (c .before .before .put-two .ensures .0) (c .before .before .put-two .ensures .1), omega (arith, l, a .inv, c .before .before .put-two .ensures .1)),
+      ),
+    )
+
+-- src/writing.rt:101:1
+same-length : tie.Need-same-length Inv-loop μ-loop
+same-length c = c .before .loop .inv .1 .0
+
+-- src/writing.rt:101:1
+returns : tie.Need-returns Inv-loop μ-loop
+returns c = let g = c .before .before .before .before .before .before .args in
+    let a = c .before .loop in
+    let z = catalogue-none (g .n) (a .i) (g .letters .now) (g .befores .now) (g .afters .now) (c .loop-test .left) in
+    let y = ap length z in
+    (sym (a .inv .1 .1 .0 ∙ ap (λ (l : List ℕ). put (a .p) l (a .out)) z ∙ put-none _ _), omega (arith, y, a .inv .1 .1 .1))
+
+pub put-catalogue-spec : {M : Type 1} → statement M
+put-catalogue-spec =
+    tie.close
+    (tie.spec
+    Inv-loop
+    μ-loop
+    loop-holds
+    shared-slice-read-c
+    shared-slice-read-a
+    cast-a
+    shared-slice-read-b
+    cast-b
+    put-two-requires
+    add-i
+    loop-less
+    loop-again
+    same-length
+    returns)

@@ -1,0 +1,138 @@
+-- The four parts of the text are one run of stores.
+use borrow.Author.Needs.{needs}
+use mathlib.Core.Path.{_≡_, ap, _∙_}
+use native.Mathlib.Omega.{arith}
+use lib.ListN.{length}
+use Rattle.sheet.proofs.PartLaws.{text-length}
+use Rattle.writer.proofs.SectionLaws.{text-put}
+use Rattle.writer.proofs.PutLaws.{put-length}
+use Rattle.writer.proofs.writing.put_text.Statement.{statement}
+use Rattle.writer.proofs.writing.put_text.Tie as tie
+use Rattle.writer.proofs.writing.put_text.Reads as reads
+use Rattle.writer.proofs.writing.put_text.Lts as lts
+use Rattle.writer.proofs.print.put_three.Reads as put-three-reads
+use Rattle.writer.proofs.writing.put_catalogue.Reads as put-catalogue-reads
+use Rattle.writer.proofs.writing.put_options.Reads as put-options-reads
+use Rattle.writer.proofs.writing.put_orderings.Reads as put-orderings-reads
+
+-- src/write.rt:179:30
+slice-aggregate-put-catalogue : tie.Need-slice-aggregate-put-catalogue
+slice-aggregate-put-catalogue c = search needs
+
+-- src/write.rt:179:37
+slice-aggregate-put-catalogue-2 : tie.Need-slice-aggregate-put-catalogue-2
+slice-aggregate-put-catalogue-2 c = search needs
+
+-- src/write.rt:179:44
+slice-aggregate-put-catalogue-3 : tie.Need-slice-aggregate-put-catalogue-3
+slice-aggregate-put-catalogue-3 c = search needs
+
+-- src/write.rt:179:9
+put-catalogue-requires : tie.Need-put-catalogue-requires
+put-catalogue-requires c κs = let lkind : length (c .before .before .before .before .before .before .before .before .args .s .letters) ≡ 512 = search (needs, c .before .before .before .before .before .before .before .before .good) in
+    let lleft : length (c .before .before .before .before .before .before .before .before .args .s .befores) ≡ 512 = search (needs, c .before .before .before .before .before .before .before .before .good) in
+    let lright : length (c .before .before .before .before .before .before .before .before .args .s .afters) ≡ 512 = search (needs, c .before .before .before .before .before .before .before .before .good) in
+    ((omega (arith, c .before .before .before .before .before .before .before .before .pre), (omega (arith, c .before .before .before .before .before .before .before .before .pre), omega (arith, c .before .before .before .before .before .before .before .before .pre))), omega (arith, text-length (c .before .before .before .before .before .before .before .before .args .s), c .before .before .before .before .before .before .before .before .pre))
+
+-- src/write.rt:182:30
+slice-aggregate-put-options : tie.Need-slice-aggregate-put-options
+slice-aggregate-put-options c = search needs
+
+-- src/write.rt:182:35
+slice-aggregate-put-options-2 : tie.Need-slice-aggregate-put-options-2
+slice-aggregate-put-options-2 c = search needs
+
+-- src/write.rt:182:9
+put-options-requires : tie.Need-put-options-requires
+put-options-requires c κs = let lid : length (c .before .before .before .before .before .before .before .before .before .before .before .before .before .before .before .before .args .s .numbers) ≡ 32 = search (needs, c .before .before .before .before .before .before .before .before .before .before .before .before .before .before .before .before .good) in
+    let lweight : length (c .before .before .before .before .before .before .before .before .before .before .before .before .before .before .before .before .args .s .weights) ≡ 32 = search (needs, c .before .before .before .before .before .before .before .before .before .before .before .before .before .before .before .before .good) in
+    let k = ap length (c .before .before .before .before .before .before .before .put-catalogue .ensures .0) ∙ put-length _ _ _ in
+    ((omega (arith, c .before .before .before .before .before .before .before .before .before .before .before .before .before .before .before .before .pre), omega (arith, c .before .before .before .before .before .before .before .before .before .before .before .before .before .before .before .before .pre)), omega (arith, k, text-length (c .before .before .before .before .before .before .before .before .before .before .before .before .before .before .before .before .args .s), c .before .before .before .before .before .before .before .before .before .before .before .before .before .before .before .before .pre, c .before .before .before .before .before .before .before .put-catalogue .ensures .1))
+
+-- src/write.rt:186:30
+slice-aggregate-put-orderings : tie.Need-slice-aggregate-put-orderings
+slice-aggregate-put-orderings c = search (needs, c .before .before .before .before .before .before .before .before .before .before .before .before .before .before .before .before .before .before .before .before .before .before .before .before .good)
+
+-- src/write.rt:186:38
+slice-aggregate-put-orderings-2 : tie.Need-slice-aggregate-put-orderings-2
+slice-aggregate-put-orderings-2 c = search (needs, c .before .before .before .before .before .before .before .before .before .before .before .before .before .before .before .before .before .before .before .before .before .before .before .before .before .good)
+
+-- src/write.rt:186:47
+slice-aggregate-put-orderings-3 : tie.Need-slice-aggregate-put-orderings-3
+slice-aggregate-put-orderings-3 c = search (needs, c .before .before .before .before .before .before .before .before .before .before .before .before .before .before .before .before .before .before .before .before .before .before .before .before .before .before .good)
+
+-- src/write.rt:186:9
+put-orderings-requires : tie.Need-put-orderings-requires
+put-orderings-requires c κs = let lfirst : length (c .before .before .before .before .before .before .before .before .before .before .before .before .before .before .before .before .before .before .before .before .before .before .before .before .before .before .args .s .firsts) ≡ 64 = search (needs, c .before .before .before .before .before .before .before .before .before .before .before .before .before .before .before .before .before .before .before .before .before .before .before .before .before .before .good) in
+    let lsecond : length (c .before .before .before .before .before .before .before .before .before .before .before .before .before .before .before .before .before .before .before .before .before .before .before .before .before .before .args .s .seconds) ≡ 64 = search (needs, c .before .before .before .before .before .before .before .before .before .before .before .before .before .before .before .before .before .before .before .before .before .before .before .before .before .before .good) in
+    let lbonus : length (c .before .before .before .before .before .before .before .before .before .before .before .before .before .before .before .before .before .before .before .before .before .before .before .before .before .before .args .s .«ordering_weights») ≡ 64 = search (needs, c .before .before .before .before .before .before .before .before .before .before .before .before .before .before .before .before .before .before .before .before .before .before .before .before .before .before .good) in
+    let k = ap length (c .before .before .before .before .before .before .before .before .before .before .before .before .before .before .before .before .before .put-catalogue .ensures .0) ∙ put-length _ _ _ in
+    let k2 = ap length (c .before .before .before .before .before .before .before .before .before .put-options .ensures .0) ∙ put-length _ _ _ in
+    ((omega (arith, c .before .before .before .before .before .before .before .before .before .before .before .before .before .before .before .before .before .before .before .before .before .before .before .before .before .before .pre), (omega (arith, c .before .before .before .before .before .before .before .before .before .before .before .before .before .before .before .before .before .before .before .before .before .before .before .before .before .before .pre), omega (arith, c .before .before .before .before .before .before .before .before .before .before .before .before .before .before .before .before .before .before .before .before .before .before .before .before .before .before .pre))), omega (arith, k, k2, text-length (c .before .before .before .before .before .before .before .before .before .before .before .before .before .before .before .before .before .before .before .before .before .before .before .before .before .before .args .s), c .before .before .before .before .before .before .before .before .before .before .before .before .before .before .before .before .before .before .before .before .before .before .before .before .before .before .pre, c .before .before .before .before .before .before .before .before .before .before .before .before .before .before .before .before .before .put-catalogue .ensures .1, c .before .before .before .before .before .before .before .before .before .put-options .ensures .1))
+
+-- src/write.rt:187:13
+add-f : tie.Need-add-f
+add-f c = omega (arith, c .before .before .before .before .before .before .before .before .before .before .before .before .before .before .before .before .before .before .before .before .before .before .before .before .before .before .before .before .before .before .pre)
+
+-- src/write.rt:188:13
+add-u : tie.Need-add-u
+add-u c = omega (arith, c .before .before .before .before .before .before .before .before .before .before .before .before .before .before .before .before .before .before .before .before .before .before .before .before .before .before .before .before .before .before .before .pre)
+
+-- src/write.rt:189:13
+add-t : tie.Need-add-t
+add-t c = omega (arith, c .before .before .before .before .before .before .before .before .before .before .before .before .before .before .before .before .before .before .before .before .before .before .before .before .before .before .before .before .before .before .before .before .pre)
+
+-- src/write.rt:190:27
+cast-put-three : tie.Need-cast-put-three
+cast-put-three c = omega (arith, c .before .before .before .before .before .before .before .before .before .before .before .before .before .before .before .before .before .before .before .before .before .before .before .before .before .before .before .before .before .before .before .before .before .pre)
+
+-- src/write.rt:190:37
+cast-put-three-2 : tie.Need-cast-put-three-2
+cast-put-three-2 c = omega (arith, c .before .before .before .before .before .before .before .before .before .before .before .before .before .before .before .before .before .before .before .before .before .before .before .before .before .before .before .before .before .before .before .before .before .pre)
+
+-- src/write.rt:190:47
+cast-put-three-3 : tie.Need-cast-put-three-3
+cast-put-three-3 c = omega (arith, c .before .before .before .before .before .before .before .before .before .before .before .before .before .before .before .before .before .before .before .before .before .before .before .before .before .before .before .before .before .before .before .before .before .pre)
+
+-- src/write.rt:190:5
+put-three-requires : tie.Need-put-three-requires
+put-three-requires c κs = let k = ap length (c .before .before .before .before .before .before .before .before .before .before .before .before .before .before .before .before .before .before .before .before .before .before .before .before .put-catalogue .ensures .0) ∙ put-length _ _ _ in
+    let k2 = ap length (c .before .before .before .before .before .before .before .before .before .before .before .before .before .before .before .before .put-options .ensures .0) ∙ put-length _ _ _ in
+    let k3 = ap length (c .before .before .before .before .before .before .put-orderings .ensures .0) ∙ put-length _ _ _ in
+    omega (arith, k, k2, k3, text-length (c .before .before .before .before .before .before .before .before .before .before .before .before .before .before .before .before .before .before .before .before .before .before .before .before .before .before .before .before .before .before .before .before .before .args .s), c .before .before .before .before .before .before .before .before .before .before .before .before .before .before .before .before .before .before .before .before .before .before .before .before .before .before .before .before .before .before .before .before .before .pre, c .before .before .before .before .before .before .before .before .before .before .before .before .before .before .before .before .before .before .before .before .before .before .before .before .put-catalogue .ensures .1, c .before .before .before .before .before .before .before .before .before .before .before .before .before .before .before .before .put-options .ensures .1, c .before .before .before .before .before .before .put-orderings .ensures .1)
+
+-- src/write.rt:171:1
+same-length : tie.Need-same-length
+same-length c = let k = ap length (c .before .before .before .before .before .before .before .before .before .before .before .before .before .before .before .before .before .before .before .before .before .before .before .before .before .before .before .put-catalogue .ensures .0) ∙ put-length _ _ _ in
+    let k2 = ap length (c .before .before .before .before .before .before .before .before .before .before .before .before .before .before .before .before .before .before .before .put-options .ensures .0) ∙ put-length _ _ _ in
+    let k3 = ap length (c .before .before .before .before .before .before .before .before .before .put-orderings .ensures .0) ∙ put-length _ _ _ in
+    ap length (c .before .before .put-three .ensures .0) ∙ put-length _ _ _ ∙ k3 ∙ k2 ∙ k
+
+-- src/write.rt:171:1
+returns : tie.Need-returns
+returns c = text-put (c .before .before .before .before .before .before .before .before .before .before .before .before .before .before .before .before .before .before .before .before .before .before .before .before .before .before .before .before .before .before .before .before .before .before .before .before .args .s) _ _ _ _ _ _ _ _ _ (c .before .before .before .before .before .before .before .before .before .before .before .before .before .before .before .before .before .before .before .before .before .before .before .before .before .before .before .put-catalogue .ensures .0) (c .before .before .before .before .before .before .before .before .before .before .before .before .before .before .before .before .before .before .before .before .before .before .before .before .before .before .before .put-catalogue .ensures .1) (c .before .before .before .before .before .before .before .before .before .before .before .before .before .before .before .before .before .before .before .put-options .ensures .0) (c .before .before .before .before .before .before .before .before .before .before .before .before .before .before .before .before .before .before .before .put-options .ensures .1) (c .before .before .before .before .before .before .before .before .before .put-orderings .ensures .0) (c .before .before .before .before .before .before .before .before .before .put-orderings .ensures .1) (c .before .before .put-three .ensures .0) (c .before .before .put-three .ensures .1)
+
+pub put-text-spec : {M : Type 1} → statement M
+put-text-spec =
+    tie.close
+    (tie.spec
+    slice-aggregate-put-catalogue
+    slice-aggregate-put-catalogue-2
+    slice-aggregate-put-catalogue-3
+    put-catalogue-requires
+    slice-aggregate-put-options
+    slice-aggregate-put-options-2
+    put-options-requires
+    slice-aggregate-put-orderings
+    slice-aggregate-put-orderings-2
+    slice-aggregate-put-orderings-3
+    put-orderings-requires
+    add-f
+    add-u
+    add-t
+    cast-put-three
+    cast-put-three-2
+    cast-put-three-3
+    put-three-requires
+    same-length
+    returns)

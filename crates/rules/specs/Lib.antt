@@ -11,4 +11,3 @@ pub mod Sequence
 pub mod Best
 pub mod Results
 pub mod laws
-pub mod Cases

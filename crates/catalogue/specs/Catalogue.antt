@@ -1,6 +1,6 @@
 -- What catalogue lines say about subscribed options.
 use mathlib.Core.Path.{_≡_}
-use mathlib.Core.Bool.{Bool, true, false, _&&_, _||_}
+use mathlib.Core.Bool.{_&&_, _||_, cond}
 use mathlib.Core.List.{List}
 use Prim.Native.Nat.{ℕ, _<_}
 use lib.ListN.{getD}
@@ -13,12 +13,8 @@ use Rattle.rows.specs.Sets.{cell}
 use Rattle.rules.specs.Lines.{C, X}
 
 -- A catalogue line by its letter: 67 is C, 88 is X.
-abbrev pub line-by : Bool → ℕ → ℕ → CatalogueLine
-line-by true x y = X x y
-line-by false x y = C x y
-
 abbrev pub line-of : ℕ → ℕ → ℕ → CatalogueLine
-line-of letter x y = line-by (eqb letter 88) x y
+line-of letter x y = cond (eqb letter 88) (X x y) (C x y)
 
 -- The first k lines of the catalogue.
 abbrev pub catalogue-of : (letters befores afters : List ℕ) → ℕ → List CatalogueLine

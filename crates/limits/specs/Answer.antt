@@ -10,15 +10,14 @@ use Rattle.rules.specs.Results.{limits-of}
 use Rattle.limits.specs.Cells.{no-limit}
 use Rattle.limits.specs.Limited.{shown-limit}
 use Rattle.sheet.specs.Lines.{lines-of}
-use Rattle.rules.specs.Results as R
 use Rattle.sheet.specs.IsRecorded.{is-recorded}
+use Rattle.rules.specs.Results as R
 use Rattle.sheet.specs.declared.answer.Refusal.{Refusal}
 use Rattle.sheet.specs.declared.answer.Refusal.the-variants.{NotRecorded, WrongDecisions}
 use Rattle.sheet.specs.declared.answer.Answer.the-variants.{Accepted, Refused}
 use Rattle.limits.specs.declared.answer.LimitsAnswer.{LimitsAnswer}
 use Rattle.sheet.specs.declared.sheet.Sheet.{Sheet}
 use Rattle.sheet.specs.declared.decision.Decisions.{Decisions}
-use Rattle.limits.specs.declared.cells.Limit.{Limit}
 use Rattle.limits.specs.declared.whole.Limited.{Limited}
 
 -- "Entries past the record's counts are open in a list of decisions and zero elsewhere": a list, then the same entry up to k.

@@ -22,29 +22,33 @@ slot-found (suc n) g a (suc i) h e d =
 
 module _ (s : Sheet) where
   pub option-lines : length (lines-of s .options) ≡ s .«option_count»
+  unfolding lines-of
   option-lines = length-list-of (s .«option_count») (option-line s)
 
   pub ordering-lines : length (lines-of s .orderings) ≡ s .«ordering_count»
+  unfolding lines-of
   ordering-lines = length-list-of (s .«ordering_count») (ordering-line s)
 
   -- what the rules call an option's number and weight, and an ordering's weight, is what the record holds
   pub slot-number : (i : ℕ) → i < s .«option_count» → subscription (lines-of s) .number i ≡ number s i
-  unfolding subscription
+  unfolding lines-of subscription
   slot-number i h = ap (λ (l : OptionLine). l .number) (getD-list-of (s .«option_count») (option-line s) _ i h)
 
   pub slot-weight : (i : ℕ) → i < s .«option_count» → subscription (lines-of s) .weight i ≡ weight s i
-  unfolding subscription
+  unfolding lines-of subscription
   slot-weight i h = ap (λ (l : OptionLine). l .weight) (getD-list-of (s .«option_count») (option-line s) _ i h)
 
   pub slot-ordering-weight : (k : ℕ) → k < s .«ordering_count» → subscription (lines-of s) .ordering-weight k ≡ ordering-weight s k
-  unfolding subscription
+  unfolding lines-of subscription
   slot-ordering-weight k h = ap (λ (l : OrderingLine). l .weight) (getD-list-of (s .«ordering_count») (ordering-line s) _ k h)
 
   ordering-at : (k : ℕ) → k < s .«ordering_count» → getD (lines-of s .orderings) k (record { first = 0; second = 0; weight = 0 }) ≡ ordering-line s k
+  unfolding lines-of
   ordering-at k h = getD-list-of (s .«ordering_count») (ordering-line s) _ k h
 
   module _ (R : Recorded s) where
     slot-is : (a i : ℕ) → i < s .«option_count» → number s i ≡ a → slot-of a (lines-of s .options) ≡ i
+    unfolding lines-of
     slot-is a i h e =
         slot-found (s .«option_count») (option-line s) a i h e
         (λ j p q. let z = R .distinct j i (omega arith) h (q ∙ sym e) in omega (arith, p, z))

@@ -1,19 +1,14 @@
 -- The lines of a record, as the rules speak of them: the one place that reads its letters and counts.
 use Prim.Native.Nat.{ℕ}
-use mathlib.Core.Bool.{Bool, true, false}
+use mathlib.Core.Bool.{cond}
 use lib.Dec.{eqb}
 use Rattle.rules.specs.Lines.{Lines, CatalogueLine, CatalogueLine.C, CatalogueLine.X, OptionLine, OrderingLine}
 use Rattle.rules.specs.Slots.{list-of}
 use Rattle.sheet.specs.Recorded.{letter, before, after, number, weight, first, second, ordering-weight}
 use Rattle.sheet.specs.declared.sheet.Sheet.{Sheet}
 
-abbrev pub line-by : Bool → ℕ → ℕ → CatalogueLine
-line-by true a b = X a b
-line-by false a b = C a b
-
--- Of the two letters, 88 is X and 67 is C.
 abbrev pub catalogue-line : Sheet → ℕ → CatalogueLine
-catalogue-line s i = line-by (eqb (letter s i) 88) (before s i) (after s i)
+catalogue-line s i = cond (eqb (letter s i) 88) (X (before s i) (after s i)) (C (before s i) (after s i))
 
 abbrev pub option-line : Sheet → ℕ → OptionLine
 option-line s i = record { number = number s i; weight = weight s i }
@@ -21,7 +16,7 @@ option-line s i = record { number = number s i; weight = weight s i }
 abbrev pub ordering-line : Sheet → ℕ → OrderingLine
 ordering-line s i = record { first = first s i; second = second s i; weight = ordering-weight s i }
 
-abbrev pub lines-of : Sheet → Lines
+unfoldable pub lines-of : Sheet → Lines
 lines-of s = record {
   catalogue = list-of (s .«catalogue_lines») (catalogue-line s);
   options = list-of (s .«option_count») (option-line s);

@@ -1,3 +1,1 @@
-pub mod Lists
-pub mod Recorded
-pub mod Proper
+pub mod Shown

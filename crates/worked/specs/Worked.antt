@@ -158,7 +158,7 @@ abbrev lines-P : Lines
 lines-P = of-lines (C 3 1 ∷ X 2 4 ∷ []) (F 1 5 ∷ F 2 3 ∷ F 3 4 ∷ F 4 2 ∷ []) (U 1 3 6 ∷ U 2 1 1 ∷ [])
 
 all-computed : All Computed cases
-unfolding read-lines read-body read-trailed read-sheet some-below slots list-of sum through subscription kept-by-slot value value-of decided-by-slot ordering-kept option-kept known-from-the-start known-before option-dropped ordering-dropped contradiction forced-option forced-ordering forced M K D clash A B E whole-lower whole-upper option-kept-lower option-kept-upper option-dropped-lower option-dropped-upper ordering-kept-lower ordering-kept-upper ordering-dropped-lower ordering-dropped-upper precedes without option-limit ordering-limit limits-of lacks-an-option acyclic is-relaxation is-consistent smallest-ready placed numbers-in-sequence sequence-of-choice first-best best-of number-again good-ends is-proper
+unfolding read-lines read-body read-trailed read-sheet lines-of some-below slots list-of sum through subscription kept-by-slot value value-of decided-by-slot ordering-kept option-kept known-from-the-start known-before option-dropped ordering-dropped contradiction forced-option forced-ordering forced M K D clash A B E whole-lower whole-upper option-kept-lower option-kept-upper option-dropped-lower option-dropped-upper ordering-kept-lower ordering-kept-upper ordering-dropped-lower ordering-dropped-upper precedes without option-limit ordering-limit limits-of lacks-an-option acyclic is-relaxation is-consistent smallest-ready placed numbers-in-sequence sequence-of-choice first-best best-of number-again good-ends is-proper
 all-computed =
   (record { reads = refl; lines = lines-P; has = refl; proper = tt; best = refl; worth = refl; places = refl }, ((refl, (lines-P, refl, refl)), ((refl, (lines-P, refl, refl)),
   (record { reads = refl; lines = (of-lines [] [] []); has = refl; proper = tt; best = refl; worth = refl; places = refl }, (refl, (refl,

@@ -1,6 +1,6 @@
 -- One pair, one line more: how the rows come to say what the catalogue says.
 use mathlib.Core.Path.{_≡_, refl, sym, subst, ap, _∙_}
-use mathlib.Core.Bool.{Bool, true, false, _&&_, _||_}
+use mathlib.Core.Bool.{Bool, true, false, _&&_, _||_, cond}
 use mathlib.Core.List.{List, [], _∷_, _++_}
 use Prim.Native.Nat.{ℕ, zero, suc, _+_, _≤_, _<_}
 use native.Mathlib.Omega.{arith}
@@ -17,7 +17,8 @@ use Rattle.rows.specs.Bits.{has, with}
 use Rattle.rows.specs.Sets.{cell}
 use Rattle.rows.specs.laws.Bits.{has-none, has-with-slot}
 use Rattle.slots.specs.Slots.{SlotOf}
-use Rattle.catalogue.specs.Catalogue.{line-by, line-of, WithPair, WithLine, SaysCatalogue}
+use Rattle.rules.specs.Lines.{C, X}
+use Rattle.catalogue.specs.Catalogue.{line-of, WithPair, WithLine, SaysCatalogue}
 
 or-no : (a b : Bool) → b ≡ false → a ≡ (a || b)
 or-no true b e = refl
@@ -46,7 +47,7 @@ pair-put n t i j {x} h e = record { at = λ p q lp lq. go p q (ℕ-discrete p i)
 
 pub exclusion-said : (n : ℕ) (numbers t : List ℕ) (letter x y : ℕ) {i j : ℕ} {u r : List ℕ} → SlotOf n numbers x i → SlotOf n numbers y j → WithPair n t i j u → WithPair n u j i r → letter ≡ 88 → WithLine n numbers t (line-of letter x y) r
 exclusion-said n numbers t letter x y {i} {j} {u} {r} sx sy w z e =
-    subst (λ b. WithLine n numbers t (line-by b x y) r) (sym (eq-eqb letter 88 e)) (record { at = λ p q lp lq. z .at p q lp lq ∙ rw (w .at p q lp lq, sx .at p lp, sx .at q lq, sy .at p lp, sy .at q lq) (go (cell t p q) (eqb i p && eqb j q) (eqb j p) (eqb i q)) })
+    subst (λ b. WithLine n numbers t (cond b (X x y) (C x y)) r) (sym (eq-eqb letter 88 e)) (record { at = λ p q lp lq. z .at p q lp lq ∙ rw (w .at p q lp lq, sx .at p lp, sx .at q lq, sy .at p lp, sy .at q lq) (go (cell t p q) (eqb i p && eqb j q) (eqb j p) (eqb i q)) })
   where
     go : (a b c d : Bool) → ((a || b) || (c && d)) ≡ (a || (b || (d && c)))
     go true b c d = refl
@@ -58,7 +59,7 @@ exclusion-said n numbers t letter x y {i} {j} {u} {r} sx sy w z e =
 
 pub precedence-said : (n : ℕ) (numbers t : List ℕ) (letter x y : ℕ) {i j : ℕ} {u : List ℕ} → SlotOf n numbers x i → SlotOf n numbers y j → WithPair n t i j u → (letter ≡ 88 → ⊥) → WithLine n numbers t (line-of letter x y) u
 precedence-said n numbers t letter x y {i} {j} {u} sx sy w e =
-    subst (λ b. WithLine n numbers t (line-by b x y) u) (sym (ne-eqb letter 88 e)) (record { at = λ p q lp lq. w .at p q lp lq ∙ rw (sx .at p lp, sy .at q lq) refl })
+    subst (λ b. WithLine n numbers t (cond b (X x y) (C x y)) u) (sym (ne-eqb letter 88 e)) (record { at = λ p q lp lq. w .at p q lp lq ∙ rw (sx .at p lp, sy .at q lq) refl })
 
 same-row : (k p z : ℕ) → getD (replicate k z) p z ≡ z
 same-row zero p z = refl

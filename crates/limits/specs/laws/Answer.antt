@@ -16,16 +16,16 @@ use Rattle.rules.specs.Results.{option-limit, ordering-limit, limits-of}
 use Rattle.limits.specs.Cells.{no-limit}
 use Rattle.limits.specs.Filled.{filled}
 use Rattle.limits.specs.Limited.{shown-limit, contradictory, without-contradiction, limited-as, LimitedBy}
-use Rattle.sheet.specs.Lines.{lines-of}
 use Rattle.subscription.specs.Shown.{ShownBy}
-use Rattle.subscription.specs.laws.Recorded.{Used, recorded-used}
-use Rattle.subscription.specs.laws.Proper.{option-count-is, ordering-count-is, counted-is, weight-is, ordering-weight-is}
 use Rattle.given.specs.laws.List.{take-list-of, drop-list-of, gives-list}
 use Rattle.limits.specs.Answer.{padded, shown-limits, limits-refused, limits-accepted, limits-answer}
 use Rattle.limits.specs.laws.Padded.{filled-padded, map-list-of, padded-same, taken-open, dropped-open}
+use Rattle.sheet.specs.Lines.{lines-of}
+use Rattle.sheet.specs.IsRecorded.{is-recorded}
+use Rattle.sheet.proofs.LinesLaws.{option-lines, ordering-lines, slot-weight, slot-ordering-weight}
+use Rattle.subscription.specs.laws.Shown.{counted-is}
 use Rattle.rules.specs.Decisions as R
 use Rattle.rules.specs.Results as R′
-use Rattle.sheet.specs.IsRecorded.{is-recorded}
 use Rattle.sheet.specs.declared.answer.Refusal.the-variants.{NotRecorded, WrongDecisions}
 use Rattle.sheet.specs.declared.decision.Choice.{Choice}
 use Rattle.given.specs.declared.sets.Given.{Given}
@@ -83,9 +83,6 @@ module _ (s : Sheet) (d : Decisions) (e : is-recorded s ≡ true) (r : BySlot) (
   abbrev m : ℕ
   m = s .«ordering_count»
 
-  used : Used s
-  used = recorded-used s e
-
   abbrev w : Subscription
   w = subscription (lines-of s)
 
@@ -93,16 +90,14 @@ module _ (s : Sheet) (d : Decisions) (e : is-recorded s ≡ true) (r : BySlot) (
   c = decided-by-slot (lines-of s) (decision-list k m d)
 
   counts : length (lines-of s .options) ≡ k
-  unfolding subscription
-  counts = option-count-is s used
+  counts = option-lines s
 
   ordering-counts : length (lines-of s .orderings) ≡ m
-  unfolding subscription
-  ordering-counts = ordering-count-is s used
+  ordering-counts = ordering-lines s
 
   worked-out : l ≡ shown-limits k (limits-of (lines-of s) (decision-list k m d))
-  worked-out = by w c (shown .shows) (record { weight = weight-is s used; ordering-weight = ordering-weight-is s used }) (gives-list (lines-of s) d k m counts ordering-counts gives)
-      ∙ ap (λ z. limited-as z c) (counted-is s used) ∙ limited-is-shown (lines-of s) (decision-list k m d) ∙ ap (λ z. shown-limits z (limits-of (lines-of s) (decision-list k m d))) counts
+  worked-out = by w c (shown .shows) (record { weight = slot-weight s; ordering-weight = slot-ordering-weight s }) (gives-list (lines-of s) d k m counts ordering-counts gives)
+      ∙ ap (λ z. limited-as z c) (counted-is s) ∙ limited-is-shown (lines-of s) (decision-list k m d) ∙ ap (λ z. shown-limits z (limits-of (lines-of s) (decision-list k m d))) counts
 
   pub limits-told : decided-past d k m ≡ false → limits-accepted l ≡ limits-answer s d
   unfolding limits-answer

@@ -1,6 +1,6 @@
 -- What the answer of `limits` means: forced decisions, contradiction, limits and open items, for every accepted record and list.
 use mathlib.Core.Path.{_≡_, refl, sym, subst, ap, _∙_}
-use mathlib.Core.Bool.{Bool, true, false, not}
+use mathlib.Core.Bool.{Bool, false, not}
 use mathlib.Core.Logic.{_↔_}
 use mathlib.Core.List.{List, [], _∷_, map}
 use Prim.Native.Nat.{ℕ, zero, suc, _+_, _<_}
@@ -9,7 +9,7 @@ use native.Mathlib.Omega.{arith}
 use lib.ListN.{length, getD, set, take, drop}
 use lib.Dec.{T}
 use Rattle.rules.specs.Lines.{Lines}
-use Rattle.rules.specs.Subscription.{subscription, items, Proper}
+use Rattle.rules.specs.Subscription.{items, Proper}
 use Rattle.rules.specs.Decisions.{is-open}
 use Rattle.rules.specs.Forced.{contradiction, forced}
 use Rattle.rules.specs.Limits.{A, B}
@@ -18,11 +18,12 @@ use Rattle.given.specs.Given.{decided, undecided, decision, decided-past, choic
 use Rattle.rules.specs.Results.{limits-of}
 use Rattle.limits.specs.Cells.{no-limit}
 use Rattle.limits.specs.Limited.{shown-limit}
-use Rattle.sheet.specs.Lines.{lines-of}
-use Rattle.subscription.specs.laws.Recorded.{Used, recorded-used}
-use Rattle.subscription.specs.laws.Proper.{option-count-is, ordering-count-is, proper}
 use Rattle.given.specs.laws.List.{length-decision-list}
 use Rattle.limits.specs.Answer.{padded, shown-limits, limits-accepted, limits-answer}
+use Rattle.sheet.specs.Lines.{lines-of}
+use Rattle.sheet.specs.Recorded.{Recorded}
+use Rattle.sheet.proofs.LinesLaws.{option-lines, ordering-lines, recorded-proper}
+use Rattle.sheet.proofs.PassLaws.{recorded-passes}
 use lib.Seq.{getD-take, getD-drop}
 use Rattle.rules.specs.Decisions as R
 use Rattle.rules.specs.Decisions.{Agrees, fits}
@@ -33,10 +34,8 @@ use Rattle.rules.specs.laws.ForcedList.{agrees-with-forced}
 use Rattle.rules.specs.laws.Contradiction.{contradiction-iff-none-agrees, no-contradiction-told, agreeing-no-contradiction}
 use Rattle.rules.specs.laws.OpenChoices.{open-option-may-be-kept, open-option-may-be-dropped, open-ordering-may-be-kept, open-ordering-may-be-dropped}
 use Rattle.rules.specs.laws.LimitsHold.{Between, whole-limits-hold, option-kept-limits-hold, option-dropped-limits-hold, ordering-kept-limits-hold, ordering-dropped-limits-hold}
-use Rattle.sheet.specs.IsRecorded.{is-recorded}
 use Rattle.sheet.specs.declared.sheet.Sheet.{Sheet}
 use Rattle.sheet.specs.declared.decision.Decisions.{Decisions}
-use Rattle.sheet.specs.declared.decision.Choice.{Choice}
 use Rattle.limits.specs.declared.cells.Limit.{Limit}
 use Rattle.limits.specs.declared.whole.Limited.{Limited}
 use Rattle.limits.specs.declared.answer.LimitsAnswer.{LimitsAnswer}
@@ -59,7 +58,7 @@ there-and-back R.Open = refl
 there-and-back R.Kept = refl
 there-and-back R.Dropped = refl
 
-module _ (s : Sheet) (d : Decisions) (recorded : is-recorded s ≡ true) (size : length (s .numbers) ≡ 32)
+module _ (s : Sheet) (d : Decisions) (obeys : Recorded s)
     (past : decided-past d (s .«option_count») (s .«ordering_count») ≡ false) where
   abbrev n : ℕ
   n = s .«option_count»
@@ -78,26 +77,21 @@ module _ (s : Sheet) (d : Decisions) (recorded : is-recorded s ≡ true) (size :
   abbrev a : Limited
   a = limits-answer s d .limits
 
-  used : Used s
-  used = recorded-used s recorded
+  option-count-is : length (lines .options) ≡ n
+  option-count-is = option-lines s
 
-  option-lines : length (lines .options) ≡ n
-  unfolding subscription
-  option-lines = option-count-is s used
-
-  ordering-lines : length (lines .orderings) ≡ m
-  unfolding subscription
-  ordering-lines = ordering-count-is s used
+  ordering-count-is : length (lines .orderings) ≡ m
+  ordering-count-is = ordering-lines s
 
   ps : Proper lines
-  ps = proper s used size
+  ps = recorded-proper s obeys
 
   list-size : length list ≡ items lines
-  list-size = length-decision-list n m d ∙ rw (option-lines, ordering-lines) refl
+  list-size = length-decision-list n m d ∙ rw (option-count-is, ordering-count-is) refl
 
   pub accepted : limits-answer s d ≡ limits-accepted (shown-limits n (limits-of lines list))
   unfolding limits-answer
-  accepted = rw (recorded, past) refl
+  accepted = rw (recorded-passes s obeys, past) refl
 
   told : a ≡ shown-limits n (limits-of lines list)
   told = ap (λ z. z .limits) accepted
@@ -114,10 +108,10 @@ module _ (s : Sheet) (d : Decisions) (recorded : is-recorded s ≡ true) (size :
   ordering-decision u = decided (getD (a .decisions .orderings) u undecided)
 
   few-options : (i : ℕ) → i < n → i < 32
-  few-options i l = let z = used .few-options in omega arith
+  few-options i l = let z = obeys .few-options in omega arith
 
   few-orderings : (u : ℕ) → u < m → u < 64
-  few-orderings u l = let z = used .few-orderings in omega arith
+  few-orderings u l = let z = obeys .few-orderings in omega arith
 
   option-decision-is : (i : ℕ) → i < n → option-decision i ≡ getD (limits-of lines list .decisions) i R.Open
   option-decision-is i l = ap (λ z. decided (getD (z .decisions .options) i undecided)) told
@@ -166,7 +160,7 @@ module _ (s : Sheet) (d : Decisions) (recorded : is-recorded s ≡ true) (size :
       open-option-told = subst (λ z. T (is-open z)) (option-decision-is i l) o
 
       slot : i < length (lines .options)
-      slot = rw option-lines l
+      slot = rw option-count-is l
 
       pub option-kept-limits : T (getD r i false) → Between (option-entry i .«kept_lower») (option-entry i .«kept_upper») (value-of lines r)
       option-kept-limits t = subst (λ z. Between (z .«kept_lower») (z .«kept_upper») (value-of lines r)) (sym (option-entry-is i l)) (option-kept-limits-hold lines ps list list-size r ok agrees i slot open-option-told t)
@@ -176,16 +170,16 @@ module _ (s : Sheet) (d : Decisions) (recorded : is-recorded s ≡ true) (size :
 
     module _ (u : ℕ) (l : u < m) (o : T (is-open (ordering-decision u))) where
       open-ordering-told : T (is-open (getD (limits-of lines list .decisions) (length (lines .options) + u) R.Open))
-      open-ordering-told = rw option-lines (subst (λ z. T (is-open z)) (ordering-decision-is u l) o)
+      open-ordering-told = rw option-count-is (subst (λ z. T (is-open z)) (ordering-decision-is u l) o)
 
       ordering-slot : u < length (lines .orderings)
-      ordering-slot = rw ordering-lines l
+      ordering-slot = rw ordering-count-is l
 
       pub ordering-kept-limits : T (getD r (n + u) false) → Between (ordering-entry u .«kept_lower») (ordering-entry u .«kept_upper») (value-of lines r)
-      ordering-kept-limits t = subst (λ z. Between (z .«kept_lower») (z .«kept_upper») (value-of lines r)) (sym (ordering-entry-is u l)) (ordering-kept-limits-hold lines ps list list-size r ok agrees u ordering-slot open-ordering-told (rw option-lines t))
+      ordering-kept-limits t = subst (λ z. Between (z .«kept_lower») (z .«kept_upper») (value-of lines r)) (sym (ordering-entry-is u l)) (ordering-kept-limits-hold lines ps list list-size r ok agrees u ordering-slot open-ordering-told (rw option-count-is t))
 
       pub ordering-dropped-limits : T (not (getD r (n + u) false)) → Between (ordering-entry u .«dropped_lower») (ordering-entry u .«dropped_upper») (value-of lines r)
-      ordering-dropped-limits t = subst (λ z. Between (z .«dropped_lower») (z .«dropped_upper») (value-of lines r)) (sym (ordering-entry-is u l)) (ordering-dropped-limits-hold lines ps list list-size r ok agrees u ordering-slot open-ordering-told (rw option-lines t))
+      ordering-dropped-limits t = subst (λ z. Between (z .«dropped_lower») (z .«dropped_upper») (value-of lines r)) (sym (ordering-entry-is u l)) (ordering-dropped-limits-hold lines ps list list-size r ok agrees u ordering-slot open-ordering-told (rw option-count-is t))
 
   -- ---- an open item's choice never contradicts
   module _ (no-contradiction : T (not (a .contradiction))) where
@@ -198,11 +192,11 @@ module _ (s : Sheet) (d : Decisions) (recorded : is-recorded s ≡ true) (size :
     pub open-option-never-contradicts : (i : ℕ) → i < n → T (is-open (option-decision i)) → T (not (limits-of lines (set list i R.Kept) .contradiction)) × T (not (limits-of lines (set list i R.Dropped) .contradiction))
     open-option-never-contradicts i l o =
         let t = subst (λ z. T (is-open (getD z i R.Open))) forced-told (subst (λ z. T (is-open z)) (option-decision-is i l) o) in
-        let k : i < length (lines .options) = rw option-lines l in
+        let k : i < length (lines .options) = rw option-count-is l in
         (open-option-may-be-kept lines ps list list-size fine-list i k t, open-option-may-be-dropped lines ps list list-size fine-list i k t)
 
     pub open-ordering-never-contradicts : (u : ℕ) → u < m → T (is-open (ordering-decision u)) → T (not (limits-of lines (set list (n + u) R.Kept) .contradiction)) × T (not (limits-of lines (set list (n + u) R.Dropped) .contradiction))
     open-ordering-never-contradicts u l o =
-        let t : T (is-open (getD (forced lines list) (length (lines .options) + u) R.Open)) = rw option-lines (subst (λ z. T (is-open (getD z (n + u) R.Open))) forced-told (subst (λ z. T (is-open z)) (ordering-decision-is u l) o)) in
-        let k : u < length (lines .orderings) = rw ordering-lines l in
-        (rw option-lines at (open-ordering-may-be-kept lines ps list list-size fine-list u k t), rw option-lines at (open-ordering-may-be-dropped lines ps list list-size fine-list u k t))
+        let t : T (is-open (getD (forced lines list) (length (lines .options) + u) R.Open)) = rw option-count-is (subst (λ z. T (is-open (getD z (n + u) R.Open))) forced-told (subst (λ z. T (is-open z)) (ordering-decision-is u l) o)) in
+        let k : u < length (lines .orderings) = rw ordering-count-is l in
+        (rw option-count-is at (open-ordering-may-be-kept lines ps list list-size fine-list u k t), rw option-count-is at (open-ordering-may-be-dropped lines ps list list-size fine-list u k t))

@@ -7,7 +7,6 @@ use native.Mathlib.Omega.{arith}
 use lib.ListN.{length, getD, List·getD-append}
 use lib.Seq.{getD-drop, drop-at}
 use Rattle.rules.specs.Slots.{list-of}
-use Rattle.rules.specs.Subscription.{subscription}
 use Rattle.rules.specs.Forced.{decision-of}
 use Rattle.rules.specs.laws.Slots.{length-list-of, getD-list-of}
 use Rattle.rows.specs.Bits.{has}
@@ -17,11 +16,9 @@ use Rattle.rows.specs.laws.Sets.{holds-at}
 use Rattle.given.specs.Given.{choice-of, undecided}
 use Rattle.limits.specs.Filled.{filled}
 use Rattle.limits.specs.laws.Filled.{filled-same}
-use Rattle.sheet.specs.IsRecorded.{is-recorded}
 use Rattle.sheet.specs.Lines.{lines-of}
+use Rattle.sheet.proofs.LinesLaws.{option-lines, ordering-lines, slot-weight, slot-ordering-weight, recorded-proper}
 use Rattle.subscription.specs.Shown.{ShownBy}
-use Rattle.subscription.specs.laws.Recorded.{Used, recorded-used}
-use Rattle.subscription.specs.laws.Proper.{option-count-is, ordering-count-is, weight-is, ordering-weight-is, proper}
 use Rattle.sheet.specs.declared.sheet.Sheet.{Sheet}
 use Rattle.subscription.specs.declared.slots_of_sheet.BySlot.{BySlot}
 use Rattle.search.specs.State.{chosen-list}
@@ -60,25 +57,20 @@ answered-is s f =
     ) refl
 
 -- ---- the arrays of a record that obeys the rule
-pub shows-of : (s : Sheet) → is-recorded s ≡ true → (b : BySlot) → ShownBy s b
-    → ShowsSheet (lines-of s) (s .«option_count») (s .«ordering_count») (b .firsts) (b .seconds) (b .rows) (s .weights) (s .«ordering_weights»)
-unfolding subscription
-shows-of s e b shown = let used = recorded-used s e in record {
-  options = option-count-is s used;
-  orderings = ordering-count-is s used;
-  proper = proper s used (shown .size);
-  shows = shown .shows;
-  weighs = record { weight = weight-is s used; ordering-weight = ordering-weight-is s used };
-}
+pub shows-of : (s : Sheet) (b : BySlot) → ShownBy s b → ShowsSheet (lines-of s) (s .«option_count») (s .«ordering_count») (b .firsts) (b .seconds) (b .rows) (s .weights) (s .«ordering_weights»)
+shows-of s b shown = record {
+  options = option-lines s; orderings = ordering-lines s; proper = recorded-proper s (shown .recorded); shows = shown .shows;
+  weighs = record { weight = slot-weight s; ordering-weight = slot-ordering-weight s } }
 
-pub arrays-of : (s : Sheet) → is-recorded s ≡ true → length (s .weights) ≡ 32 → length (s .«ordering_weights») ≡ 64 → (b : BySlot) → ShownBy s b
-    → Arrays (s .«option_count») (s .«ordering_count») (b .firsts) (b .seconds) (b .rows) (s .weights) (s .«ordering_weights»)
-arrays-of s e weights orderings b shown = let used = recorded-used s e in record {
+pub arrays-of : (s : Sheet) (b : BySlot) → ShownBy s b → Arrays (s .«option_count») (s .«ordering_count») (b .firsts) (b .seconds) (b .rows) (s .weights) (s .«ordering_weights»)
+arrays-of s b shown = let R = shown .recorded in record {
   ends = shown .ends;
-  weights = record { few-options = used .few-options; few-orderings = used .few-orderings; weight-size = (let z = used .few-options in omega arith); ordering-weight-size = (let z = used .few-orderings in omega arith) };
+  weights = record {
+    few-options = R .few-options; few-orderings = R .few-orderings;
+    weight-size = (let z = R .few-options in let k = R .lengths .weights in omega arith);
+    ordering-weight-size = (let z = R .few-orderings in let k = R .lengths .«ordering_weights» in omega arith) };
   lines = lines-of s;
-  of = shows-of s e b shown;
-}
+  of = shows-of s b shown }
 
 -- The arrays' answer is the sheet's.
 pub answers-of : (s : Sheet) (tolerance : ℕ) {firsts seconds rows : List ℕ}

@@ -17,18 +17,18 @@ use Rattle.rules.specs.Results.{sequence-of, is-consistent, numbers-in-sequence
 use Rattle.rules.specs.Relaxation.{KeptBySlot, kept-by-slot}
 use Rattle.sequence.specs.Padded.{places-of}
 use Rattle.sequence.specs.Sequenced.{is-consistent-as, sequence-as, not-consistent, placed-as, PlacedBy}
-use Rattle.sheet.specs.Lines.{lines-of}
 use Rattle.subscription.specs.Shown.{ShownBy}
-use Rattle.subscription.specs.laws.Recorded.{Used, recorded-used}
-use Rattle.subscription.specs.laws.Proper.{option-count-is, ordering-count-is, counted-is, number-is}
 use Rattle.given.specs.laws.List.{gives-list, length-decision-list, no-open-item}
 use Rattle.sequence.specs.Answer.{sequence-refused, sequence-accepted, sequence-shown, sequence-answer}
+use Rattle.sheet.specs.Lines.{lines-of}
+use Rattle.sheet.specs.IsRecorded.{is-recorded}
+use Rattle.sheet.proofs.LinesLaws.{option-lines, ordering-lines, slot-number}
+use Rattle.subscription.specs.laws.Shown.{counted-is}
 use Rattle.rules.specs.Decisions as R
 use Rattle.rules.specs.laws.Decisions.{just-the-kept, just-the-kept-at, take-just-the-kept, drop-just-the-kept, length-just-the-kept, full-choice-is}
 use Rattle.given.specs.declared.sets.Given.{Given}
 use Rattle.subscription.specs.declared.slots_of_sheet.BySlot.{BySlot}
 use Rattle.sequence.specs.declared.whole.Placed.{Placed}
-use Rattle.sheet.specs.IsRecorded.{is-recorded}
 use Rattle.sheet.specs.declared.answer.Refusal.the-variants.{NotRecorded, WrongDecisions, NotConsistent}
 use Rattle.sheet.specs.declared.sheet.Sheet.{Sheet}
 use Rattle.sheet.specs.declared.decision.Decisions.{Decisions}
@@ -99,16 +99,11 @@ module _ (s : Sheet) (d : Decisions) (e : is-recorded s ≡ true)
   abbrev list : List R.Decision
   list = decision-list n m d
 
-  used : Used s
-  used = recorded-used s e
-
   counts : length (lines-of s .options) ≡ n
-  unfolding subscription
-  counts = option-count-is s used
+  counts = option-lines s
 
   ordering-counts : length (lines-of s .orderings) ≡ m
-  unfolding subscription
-  ordering-counts = ordering-count-is s used
+  ordering-counts = ordering-lines s
 
   full : R.open-items list ≡ 0
   full = no-open-item n m d open-items
@@ -120,9 +115,9 @@ module _ (s : Sheet) (d : Decisions) (e : is-recorded s ≡ true)
   gives-slots = gives-list (lines-of s) d n m counts ordering-counts gives
 
   placed-out : p ≡ placed-as (subscription (lines-of s)) (kept-by-slot (lines-of s) (just-the-kept list))
-  placed-out = by (subscription (lines-of s)) (kept-by-slot (lines-of s) (just-the-kept list)) (shown .shows) (number-is s used)
+  placed-out = by (subscription (lines-of s)) (kept-by-slot (lines-of s) (just-the-kept list)) (shown .shows) (slot-number s)
       (record { option = holds-same (gives-slots .kept) (λ i l. sym (option-kept-told (lines-of s) list full size i)); ordering = holds-same (gives-slots .kept-orderings) (λ u l. sym (ordering-kept-told (lines-of s) list full size u)) })
-      ∙ ap (λ z. placed-as z (kept-by-slot (lines-of s) (just-the-kept list))) (counted-is s used)
+      ∙ ap (λ z. placed-as z (kept-by-slot (lines-of s) (just-the-kept list))) (counted-is s)
 
   answered : sequence-answer s d ≡ sequence-shown (sequence-of (lines-of s) list)
   unfolding sequence-answer

@@ -1,4 +1,4 @@
--- What is written into zeros, place by place, is the places-of list.
+-- What is written into zeros, place by place, is the list with zeros past its end.
 use mathlib.Core.Path.{_≡_, refl, sym, ap, _∙_}
 use mathlib.Core.List.{List, [], _∷_, _++_}
 use Prim.Native.Nat.{ℕ, zero, suc, _+_, _≤_}

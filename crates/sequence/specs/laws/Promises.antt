@@ -6,7 +6,6 @@ use mathlib.Core.List.{List, map}
 use mathlib.Core.Option.{none, some}
 use Prim.Native.Nat.{ℕ}
 use native.Mathlib.Omega.{arith}
-use lib.ListN.{length}
 use lib.Dec.{T}
 use Rattle.rules.specs.Lines.{Lines}
 use Rattle.rules.specs.Subscription.{subscription, Proper}
@@ -18,28 +17,27 @@ use Rattle.rules.specs.Sequence.{precedes, kept-slots}
 use Rattle.rules.specs.Relaxation.{kept-by-slot}
 use Rattle.sequence.specs.Next.{number}
 use Rattle.sequence.specs.Padded.{places-of}
-use Rattle.sheet.specs.Lines.{lines-of}
-use Rattle.subscription.specs.laws.Recorded.{recorded-used}
-use Rattle.subscription.specs.laws.Proper.{proper}
 use Rattle.given.specs.laws.List.{no-open-item}
 use Rattle.sequence.specs.Answer.{sequence-accepted, sequence-shown, sequence-answer}
+use Rattle.sheet.specs.Lines.{lines-of}
+use Rattle.sheet.specs.Recorded.{Recorded}
+use Rattle.sheet.proofs.LinesLaws.{recorded-proper}
+use Rattle.sheet.proofs.PassLaws.{recorded-passes}
 use Rattle.rules.specs.Sequence.{SequenceOf, Ordered, NoLater}
 use Rattle.rules.specs.Relaxation.{ConsistentRelaxation}
 use Rattle.rules.specs.laws.Decisions.{just-the-kept}
 use Rattle.rules.specs.laws.Relaxation.{consistent-in, consistent-out}
 use Rattle.rules.specs.laws.Sequence.{has-sequence-iff-consistent, sequence-is-smallest, sequence-of-choice-is, sequence-of-full}
-use Rattle.sheet.specs.IsRecorded.{is-recorded}
 use Rattle.sheet.specs.declared.sheet.Sheet.{Sheet}
 use Rattle.sheet.specs.declared.decision.Decisions.{Decisions}
-use Rattle.sheet.specs.declared.answer.Answer.{Answer}
-use Rattle.sheet.specs.declared.answer.Answer.the-variants.{Accepted, Refused}
+use Rattle.sheet.specs.declared.answer.Answer.the-variants.{Accepted}
 use Rattle.sequence.specs.declared.answer.Sequenced.{Sequenced}
 
 -- Two results that the contract allows are equal.
 pub sequence-answer-unique : (s : Sheet) (d : Decisions) (x y : Sequenced) → x ≡ sequence-answer s d → y ≡ sequence-answer s d → x ≡ y
 sequence-answer-unique s d x y e f = e ∙ sym f
 
-module _ (s : Sheet) (d : Decisions) (recorded : is-recorded s ≡ true) (size : length (s .numbers) ≡ 32)
+module _ (s : Sheet) (d : Decisions) (obeys : Recorded s)
     (past : decided-past d (s .«option_count») (s .«ordering_count») ≡ false) (decided : open-within d (s .«option_count») (s .«ordering_count») ≡ false) where
   abbrev lines : Lines
   lines = lines-of s
@@ -49,11 +47,11 @@ module _ (s : Sheet) (d : Decisions) (recorded : is-recorded s ≡ true) (size :
   choice = just-the-kept (decision-list (s .«option_count») (s .«ordering_count») d)
 
   ps : Proper lines
-  ps = proper s (recorded-used s recorded) size
+  ps = recorded-proper s obeys
 
   answered : sequence-answer s d ≡ sequence-shown (sequence-of-choice lines choice)
   unfolding sequence-answer
-  answered = rw (recorded, past, decided) (ap sequence-shown (sequence-of-full lines ps (decision-list (s .«option_count») (s .«ordering_count») d) (no-open-item (s .«option_count») (s .«ordering_count») d decided)))
+  answered = rw (recorded-passes s obeys, past, decided) (ap sequence-shown (sequence-of-full lines ps (decision-list (s .«option_count») (s .«ordering_count») d) (no-open-item (s .«option_count») (s .«ordering_count») d decided)))
 
   -- "A full decision that is no consistent relaxation" is refused; any other is not.
   pub sequence-exactly : (sequence-answer s d .answer ≡ Accepted) ↔ ConsistentRelaxation lines choice

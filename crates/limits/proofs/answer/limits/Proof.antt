@@ -5,8 +5,9 @@ use borrow.Author.Needs.{needs}
 use borrow.Author.Tests.{not-true, not-false}
 use lib.ListN.{length}
 use Rattle.rules.specs.Results.{limits-of}
-use Rattle.subscription.specs.laws.Recorded.{recorded-used}
 use Rattle.limits.specs.laws.Answer.{limits-told, limits-not-recorded, limits-wrong-decisions}
+use Rattle.sheet.specs.IsRecorded.{is-recorded}
+use Rattle.sheet.proofs.CheckTurnLaws.{recorded-limits}
 use Rattle.limits.proofs.answer.limits.Statement.{statement}
 use Rattle.limits.proofs.answer.limits.Tie as tie
 
@@ -32,10 +33,10 @@ by-slot-requires : tie.Need-by-slot-requires
 by-slot-requires c κs = (sym (c .before .before .before .is-recorded .ensures) ∙ not-false _ (c .before .before .if1 .left))
 
 given-sets-requires : tie.Need-given-sets-requires
-given-sets-requires c κs = let z = recorded-used (c .before .before .before .before .before .args .t1) (sym (c .before .before .before .before .is-recorded .ensures) ∙ not-false _ (c .before .before .before .if1 .left)) in (z .few-options, z .few-orderings)
+given-sets-requires c κs = recorded-limits (c .before .before .before .before .before .args .t1) (sym (c .before .before .before .before .is-recorded .ensures) ∙ not-false _ (c .before .before .before .if1 .left)) .1
 
 limits-of-requires : tie.Need-limits-of-requires
-limits-of-requires c κs = let size-weights : length (c .before .before .before .before .before .before .before .before .before .before .before .before .before .before .before .before .before .args .t1 .weights) ≡ 32 = search (needs, c .before .before .before .before .before .before .before .before .before .before .before .before .before .before .before .before .before .good) in let size-more : length (c .before .before .before .before .before .before .before .before .before .before .before .before .before .before .before .before .before .args .t1 .«ordering_weights») ≡ 64 = search (needs, c .before .before .before .before .before .before .before .before .before .before .before .before .before .before .before .before .before .good) in let z = recorded-used (c .before .before .before .before .before .before .before .before .before .before .before .before .before .before .before .before .before .args .t1) (sym (c .before .before .before .before .before .before .before .before .before .before .before .before .before .before .before .before .is-recorded .ensures) ∙ not-false _ (c .before .before .before .before .before .before .before .before .before .before .before .before .before .before .before .if1 .left)) in let x = z .few-options in let y = z .few-orderings in (c .before .before .before .before .before .before .before .before .before .before .before .before .by-slot .ensures .ends, record { few-options = x; few-orderings = y; weight-size = omega arith; ordering-weight-size = omega arith })
+limits-of-requires c κs = let size-weights : length (c .before .before .before .before .before .before .before .before .before .before .before .before .before .before .before .before .before .args .t1 .weights) ≡ 32 = search (needs, c .before .before .before .before .before .before .before .before .before .before .before .before .before .before .before .before .before .good) in let size-more : length (c .before .before .before .before .before .before .before .before .before .before .before .before .before .before .before .before .before .args .t1 .«ordering_weights») ≡ 64 = search (needs, c .before .before .before .before .before .before .before .before .before .before .before .before .before .before .before .before .before .good) in let z = recorded-limits (c .before .before .before .before .before .before .before .before .before .before .before .before .before .before .before .before .before .args .t1) (sym (c .before .before .before .before .before .before .before .before .before .before .before .before .before .before .before .before .is-recorded .ensures) ∙ not-false _ (c .before .before .before .before .before .before .before .before .before .before .before .before .before .before .before .if1 .left)) in let x = z .1 .0 in let y = z .1 .1 in (c .before .before .before .before .before .before .before .before .before .before .before .before .by-slot .ensures .ends, record { few-options = x; few-orderings = y; weight-size = omega arith; ordering-weight-size = omega arith })
 
 returns-3 : tie.Need-returns-3
 returns-3 c = limits-told (c .before .before .before .before .before .before .before .before .before .before .before .before .before .before .before .before .before .before .args .t1) (c .before .before .before .before .before .before .before .before .before .before .before .before .before .before .before .before .before .before .args .decisions) (sym (c .before .before .before .before .before .before .before .before .before .before .before .before .before .before .before .before .before .is-recorded .ensures) ∙ not-false _ (c .before .before .before .before .before .before .before .before .before .before .before .before .before .before .before .before .if1 .left)) _ _ _ (c .before .before .before .before .before .before .before .before .before .before .before .before .before .by-slot .ensures) (c .before .before .before .before .before .before .before .before .before .before .before .before .given-sets .ensures) (c .limits-of .ensures) (sym (c .before .before .before .before .before .before .before .before .before .before .before .before .before .before .before .has-decision-past .ensures) ∙ c .before .before .before .before .before .before .before .before .before .before .before .before .before .before .if2 .left)

@@ -1,7 +1,4 @@
 -- The record's rule gives what each part asks for; the law `answers-of` puts the parts together.
-use mathlib.Core.Path.{_≡_}
-use lib.ListN.{length}
-use Rattle.subscription.specs.laws.Recorded.{recorded-used}
 use Rattle.search.specs.laws.Answered.{shows-of, arrays-of, answers-of}
 use borrow.Author.Needs.{needs}
 use Rattle.search.proofs.sheet_search.answer_of.Statement.{statement}
@@ -18,15 +15,15 @@ by-slot-requires c κs = c .pre .0
 
 -- src/sheet_search.rt:71:9
 found-in-requires : tie.Need-found-in-requires
-found-in-requires c κs = let size-weights : length (c .before .before .before .before .before .before .before .before .before .before .before .before .args .t1 .weights) ≡ 32 = search (needs, c .before .before .before .before .before .before .before .before .before .before .before .before .good) in let size-ordering-weights : length (c .before .before .before .before .before .before .before .before .before .before .before .before .args .t1 .«ordering_weights») ≡ 64 = search (needs, c .before .before .before .before .before .before .before .before .before .before .before .before .good) in (arrays-of (c .before .before .before .before .before .before .before .before .before .before .before .before .args .t1) (c .before .before .before .before .before .before .before .before .before .before .before .before .pre .0) size-weights size-ordering-weights _ (c .before .before .before .before .before .before .before .before .before .before .before .by-slot .ensures), c .before .before .before .before .before .before .before .before .before .before .before .before .pre .1)
+found-in-requires c κs = (arrays-of (c .before .before .before .before .before .before .before .before .before .before .before .before .args .t1) _ (c .before .before .before .before .before .before .before .before .before .before .before .by-slot .ensures), c .before .before .before .before .before .before .before .before .before .before .before .before .pre .1)
 
 -- src/sheet_search.rt:81:5
 accepted-requires : tie.Need-accepted-requires
-accepted-requires c κs = let z = recorded-used (c .before .before .before .before .before .before .before .before .before .before .before .before .before .args .t1) (c .before .before .before .before .before .before .before .before .before .before .before .before .before .pre .0) in (z .few-options, z .few-orderings)
+accepted-requires c κs = let R = c .before .before .before .before .before .before .before .before .before .before .before .before .by-slot .ensures .recorded in (R .few-options, R .few-orderings)
 
 -- src/sheet_search.rt:63:1
 returns : tie.Need-returns
-returns c = answers-of (c .before .before .before .before .before .before .before .before .before .before .before .before .before .before .args .t1) _ (shows-of (c .before .before .before .before .before .before .before .before .before .before .before .before .before .before .args .t1) (c .before .before .before .before .before .before .before .before .before .before .before .before .before .before .pre .0) _ (c .before .before .before .before .before .before .before .before .before .before .before .before .before .by-slot .ensures)) _ (c .before .found-in .ensures) (c .accepted .ensures)
+returns c = answers-of (c .before .before .before .before .before .before .before .before .before .before .before .before .before .before .args .t1) _ (shows-of (c .before .before .before .before .before .before .before .before .before .before .before .before .before .before .args .t1) _ (c .before .before .before .before .before .before .before .before .before .before .before .before .before .by-slot .ensures)) _ (c .before .found-in .ensures) (c .accepted .ensures)
 
 pub answer-of-spec : {M : Type 1} → statement M
 answer-of-spec = tie.close (tie.spec by-slot-requires found-in-requires accepted-requires returns)

@@ -5,8 +5,9 @@ use borrow.Author.Needs.{needs}
 use borrow.Author.Tests.{not-true, not-false}
 use lib.ListN.{length}
 use Rattle.rules.specs.Results.{sequence-of}
-use Rattle.subscription.specs.laws.Recorded.{recorded-used}
 use Rattle.sequence.specs.laws.Answer.{sequence-not-recorded, sequence-decided-past, sequence-open-within, sequence-found, sequence-missing}
+use Rattle.sheet.specs.IsRecorded.{is-recorded}
+use Rattle.sheet.proofs.CheckTurnLaws.{recorded-limits}
 use Rattle.sequence.proofs.answer.sequence.Statement.{statement}
 use Rattle.sequence.proofs.answer.sequence.Tie as tie
 
@@ -29,7 +30,7 @@ returns-2 : tie.Need-returns-2
 returns-2 c = c .refused2 .ensures ∙ sequence-decided-past (c .before .before .before .before .before .args .t1) (c .before .before .before .before .before .args .decisions) (sym (c .before .before .before .before .is-recorded .ensures) ∙ not-false _ (c .before .before .before .if1 .left)) (sym (c .before .before .has-decision-past .ensures) ∙ c .before .if2 .taken)
 
 has-open-item-requires : tie.Need-has-open-item-requires
-has-open-item-requires c κs = let z = recorded-used (c .before .before .before .before .args .t1) (sym (c .before .before .before .is-recorded .ensures) ∙ not-false _ (c .before .before .if1 .left)) in (z .few-options, z .few-orderings)
+has-open-item-requires c κs = recorded-limits (c .before .before .before .before .args .t1) (sym (c .before .before .before .is-recorded .ensures) ∙ not-false _ (c .before .before .if1 .left)) .1
 
 refused-requires-3 : tie.Need-refused-requires-3
 refused-requires-3 c κs = search needs
@@ -41,10 +42,10 @@ by-slot-requires : tie.Need-by-slot-requires
 by-slot-requires c κs = (sym (c .before .before .before .before .before .is-recorded .ensures) ∙ not-false _ (c .before .before .before .before .if1 .left))
 
 given-sets-requires : tie.Need-given-sets-requires
-given-sets-requires c κs = let z = recorded-used (c .before .before .before .before .before .before .before .args .t1) (sym (c .before .before .before .before .before .before .is-recorded .ensures) ∙ not-false _ (c .before .before .before .before .before .if1 .left)) in (z .few-options, z .few-orderings)
+given-sets-requires c κs = recorded-limits (c .before .before .before .before .before .before .before .args .t1) (sym (c .before .before .before .before .before .before .is-recorded .ensures) ∙ not-false _ (c .before .before .before .before .before .if1 .left)) .1
 
 sequence-of-requires : tie.Need-sequence-of-requires
-sequence-of-requires c κs = let size-numbers : length (c .before .before .before .before .before .before .before .before .before .before .before .before .before .before .before .before .before .args .t1 .numbers) ≡ 32 = search (needs, c .before .before .before .before .before .before .before .before .before .before .before .before .before .before .before .before .before .good) in let z = recorded-used (c .before .before .before .before .before .before .before .before .before .before .before .before .before .before .before .before .before .args .t1) (sym (c .before .before .before .before .before .before .before .before .before .before .before .before .before .before .before .before .is-recorded .ensures) ∙ not-false _ (c .before .before .before .before .before .before .before .before .before .before .before .before .before .before .before .if1 .left)) in let x = z .few-options in (c .before .before .before .before .before .before .before .before .before .before .by-slot .ensures .ends, omega arith)
+sequence-of-requires c κs = let size-numbers : length (c .before .before .before .before .before .before .before .before .before .before .before .before .before .before .before .before .before .args .t1 .numbers) ≡ 32 = search (needs, c .before .before .before .before .before .before .before .before .before .before .before .before .before .before .before .before .before .good) in let z = recorded-limits (c .before .before .before .before .before .before .before .before .before .before .before .before .before .before .before .before .before .args .t1) (sym (c .before .before .before .before .before .before .before .before .before .before .before .before .before .before .before .before .is-recorded .ensures) ∙ not-false _ (c .before .before .before .before .before .before .before .before .before .before .before .before .before .before .before .if1 .left)) in let x = z .1 .0 in (c .before .before .before .before .before .before .before .before .before .before .by-slot .ensures .ends, omega arith)
 
 refused-requires-4 : tie.Need-refused-requires-4
 refused-requires-4 c κs = search needs

@@ -26,6 +26,7 @@ pub fn number_of(a: Answer) -> u32 {
 
 pub fn refusal_number(why: Refusal) -> u32 {
     match why {
+        Refusal::ToleranceTooLarge => 11,
         Refusal::NotRecorded => 12,
         Refusal::WrongDecisions => 14,
         Refusal::NotConsistent => 15,

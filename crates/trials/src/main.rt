@@ -1,4 +1,5 @@
-// Limits and sequences of small sheets by chance, against all their choices one after another.
+// Limits, sequences and searches of small sheets by chance, against all their choices one after another.
+mod best;
 mod chance;
 mod compare;
 mod expected;
@@ -30,6 +31,10 @@ fn report(t: Tally) {
     line(b"refused as 15, cycle by catalogue ", t.by_catalogue);
     line(b"refused as 15, cycle by orderings ", t.by_orderings);
     line(b"refused as 15, mixed cycle ", t.mixed);
+    line(b"sheets searched ", t.searches);
+    line(b"more than one worth most ", t.tied);
+    line(b"with an option of weight 0 ", t.noughts);
+    line(b"with a pair both ways round ", t.both_ways);
     line(b"differences ", t.differences);
 }
 
@@ -43,6 +48,12 @@ fn main() {
         x = stir(x);
         t = tally::sequence_trial(t, x);
         k += 1;
+    }
+    let mut j: u32 = 0;
+    while j < 4000 {
+        x = stir(x);
+        t = tally::search_trial(t, x);
+        j += 1;
     }
     report(t);
 }

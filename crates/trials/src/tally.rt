@@ -1,4 +1,10 @@
 // One trial after another, counted.
+use crate::best::best_choice;
+use crate::best::has_both_ways;
+use crate::best::has_nought;
+use crate::best::is_best;
+use crate::best::is_near;
+use crate::chance::draw;
 use crate::chance::stir;
 use crate::compare::number_of;
 use crate::compare::same_limits;
@@ -38,6 +44,10 @@ pub struct Tally {
     pub by_catalogue: u32,
     pub by_orderings: u32,
     pub mixed: u32,
+    pub searches: u32,
+    pub tied: u32,
+    pub noughts: u32,
+    pub both_ways: u32,
     pub differences: u32,
 }
 
@@ -55,6 +65,10 @@ pub fn start() -> Tally {
         by_catalogue: 0,
         by_orderings: 0,
         mixed: 0,
+        searches: 0,
+        tied: 0,
+        noughts: 0,
+        both_ways: 0,
         differences: 0,
     }
 }
@@ -188,6 +202,29 @@ pub fn sequence_trial(t: Tally, x: u32) -> Tally {
     o.by_catalogue = more(t.by_catalogue, good && why == 2);
     o.by_orderings = more(t.by_orderings, good && why == 3);
     o.mixed = more(t.mixed, good && why == 4);
+    o.differences = more(t.differences, !fine);
+    o
+}
+
+// At tolerance 0, at one by chance, and at one too large.
+pub fn search_trial(t: Tally, x: u32) -> Tally {
+    let s = small_sheet(x);
+    let used = items(s.option_count % 5, s.ordering_count % 4);
+    let before = by_catalogue(s);
+    let best = best_choice(before, s, used);
+    let tolerance = draw(stir(x ^ 3000), 20);
+    let exact = search::search(s, 0);
+    let near = search::search(s, tolerance);
+    let none = search::search(s, 959905);
+    let no = none.answer;
+    let fine = is_best(exact, best, used)
+        && is_near(near, best, before, s, used, tolerance)
+        && number_of(no) == 11;
+    let mut o = t;
+    o.searches = more(t.searches, true);
+    o.tied = more(t.tied, best.tied);
+    o.noughts = more(t.noughts, has_nought(s));
+    o.both_ways = more(t.both_ways, has_both_ways(s));
     o.differences = more(t.differences, !fine);
     o
 }

@@ -79,42 +79,51 @@ sheet-P = "C 3 1\nX 2 4\nF 1 5\nF 2 3\nF 3 4\nF 4 2\nU 1 3 6\nU 2 1 1\nT 3 7 9\n
 
 abbrev pub cases : List Case
 cases =
-  -- "Sheet P: best value 13."
-  best sheet-P (true ∷ true ∷ true ∷ false ∷ false ∷ true ∷ []) 13 (2 ∷ 3 ∷ 1 ∷ []) ∷
-  -- "Sheet P, all open: `U 1 3` is forced out, whole limits 0 and 15; option 2 kept 3 to 13, dropped 0 to 11; option 4 kept 2 to 11, dropped 0 to 13."
-  limits sheet-P (all-open 6) (record {
-    contradiction = false; decisions = Open ∷ Open ∷ Open ∷ Open ∷ Dropped ∷ Open ∷ []; lower = 0; upper = 15;
-    options = from-to 5 15 0 9 ∷ from-to 3 13 0 11 ∷ from-to 4 15 0 11 ∷ from-to 2 11 0 13 ∷ [];
-    orderings = no-limit ∷ from-to 9 13 0 14 ∷ [] }) ∷
-  -- Options 2 and 4 exclude each other: keeping both is a contradiction.
-  limits sheet-P (Open ∷ Kept ∷ Open ∷ Kept ∷ Open ∷ Open ∷ []) (record {
-    contradiction = true; decisions = all-open 6; lower = 0; upper = 0;
-    options = no-limit ∷ no-limit ∷ no-limit ∷ no-limit ∷ []; orderings = no-limit ∷ no-limit ∷ [] }) ∷
-  -- "`T 1 1 1`: accepted, prints `V 0 0`. Empty input: 2. `T 1 1 2`: 3 at 1, 1."
-  best "T 1 1 1\n" [] 0 [] ∷
-  refused "" 2 0 0 ∷
-  refused "T 1 1 2\n" 3 1 1 ∷
-  -- "`X 1 2`, `F 2 5`, `F 1 5`, `T 2 4 4`: keeps 2."
-  best "X 1 2\nF 2 5\nF 1 5\nT 2 4 4\n" (true ∷ false ∷ []) 5 (2 ∷ []) ∷
-  -- "`C 1 2`, `C 2 3`, `C 3 1`, `F 1 5`, `F 2 4`, `F 3 3`, `T 4 7 7`: value 9, sequence 1, 2."
-  best "C 1 2\nC 2 3\nC 3 1\nF 1 5\nF 2 4\nF 3 3\nT 4 7 7\n" (true ∷ true ∷ false ∷ []) 9 (1 ∷ 2 ∷ []) ∷
-  -- "`F 1 1`, `F 2 1`, `U 1 2 4`, `U 2 1 4`, `T 1 3 5`: value 6, first ordering kept."
-  best "F 1 1\nF 2 1\nU 1 2 4\nU 2 1 4\nT 1 3 5\n" (true ∷ true ∷ true ∷ false ∷ []) 6 (1 ∷ 2 ∷ []) ∷
-  -- "`C 1 2`, `C 2 3`, `F 1 5`, `F 3 5`, `U 3 1 2`, `T 3 5 6`: value 12, sequence 3, 1."
-  best "C 1 2\nC 2 3\nF 1 5\nF 3 5\nU 3 1 2\nT 3 5 6\n" (true ∷ true ∷ true ∷ []) 12 (3 ∷ 1 ∷ []) ∷
-  -- "`F 9 0`, `T 1 2 2`: option 9 kept, value 0."
-  best "F 9 0\nT 1 2 2\n" (true ∷ []) 0 (9 ∷ []) ∷
-  -- "Each followed by `T 1 2 2`. `F 05 1`: 4 at 1, 4. `F 5`: 4 at 1, 4 (the line end). `F 123456 1`: 4 at 1, 8."
-  refused "F 05 1\nT 1 2 2\n" 4 1 4 ∷
-  refused "F 5\nT 1 2 2\n" 4 1 4 ∷
-  refused "F 123456 1\nT 1 2 2\n" 4 1 8 ∷
-  -- "Followed by `T 1 2 2`, `F 251 1`: 5 at 1, 3; `F 250 9999` passes. `C 7 7`, `T 2 2 2`: 8 at 1, 5."
-  refused "F 251 1\nT 1 2 2\n" 5 1 3 ∷
-  accepted "F 250 9999\nT 1 2 2\n" ∷
-  refused "C 7 7\nT 2 2 2\n" 8 1 5 ∷
-  -- "Keeping heavy options first: `X 1 2`, `X 1 3` with weights 5, 3, 3 has best value 6, not 5."
-  best "X 1 2\nX 1 3\nF 1 5\nF 2 3\nF 3 3\nT 3 6 6\n" (false ∷ true ∷ true ∷ []) 6 (2 ∷ 3 ∷ []) ∷
-  []
+    -- "Sheet P: best value 13."
+    best sheet-P (true ∷ true ∷ true ∷ false ∷ false ∷ true ∷ []) 13 (2 ∷ 3 ∷ 1 ∷ []) ∷
+    -- "Sheet P, all open: `U 1 3` is forced out, whole limits 0 and 15; option 2 kept 3 to 13, dropped 0 to 11; option 4 kept 2 to 11, dropped 0 to 13."
+    limits sheet-P (all-open 6) (record {
+      contradiction = false;
+      decisions = Open ∷ Open ∷ Open ∷ Open ∷ Dropped ∷ Open ∷ [];
+      lower = 0;
+      upper = 15;
+      options = from-to 5 15 0 9 ∷ from-to 3 13 0 11 ∷ from-to 4 15 0 11 ∷ from-to 2 11 0 13 ∷ [];
+      orderings = no-limit ∷ from-to 9 13 0 14 ∷ [];
+    }) ∷
+    -- Options 2 and 4 exclude each other: keeping both is a contradiction.
+    limits sheet-P (Open ∷ Kept ∷ Open ∷ Kept ∷ Open ∷ Open ∷ []) (record {
+      contradiction = true;
+      decisions = all-open 6;
+      lower = 0;
+      upper = 0;
+      options = no-limit ∷ no-limit ∷ no-limit ∷ no-limit ∷ [];
+      orderings = no-limit ∷ no-limit ∷ [];
+    }) ∷
+    -- "`T 1 1 1`: accepted, prints `V 0 0`. Empty input: 2. `T 1 1 2`: 3 at 1, 1."
+    best "T 1 1 1\n" [] 0 [] ∷
+    refused "" 2 0 0 ∷
+    refused "T 1 1 2\n" 3 1 1 ∷
+    -- "`X 1 2`, `F 2 5`, `F 1 5`, `T 2 4 4`: keeps 2."
+    best "X 1 2\nF 2 5\nF 1 5\nT 2 4 4\n" (true ∷ false ∷ []) 5 (2 ∷ []) ∷
+    -- "`C 1 2`, `C 2 3`, `C 3 1`, `F 1 5`, `F 2 4`, `F 3 3`, `T 4 7 7`: value 9, sequence 1, 2."
+    best "C 1 2\nC 2 3\nC 3 1\nF 1 5\nF 2 4\nF 3 3\nT 4 7 7\n" (true ∷ true ∷ false ∷ []) 9 (1 ∷ 2 ∷ []) ∷
+    -- "`F 1 1`, `F 2 1`, `U 1 2 4`, `U 2 1 4`, `T 1 3 5`: value 6, first ordering kept."
+    best "F 1 1\nF 2 1\nU 1 2 4\nU 2 1 4\nT 1 3 5\n" (true ∷ true ∷ true ∷ false ∷ []) 6 (1 ∷ 2 ∷ []) ∷
+    -- "`C 1 2`, `C 2 3`, `F 1 5`, `F 3 5`, `U 3 1 2`, `T 3 5 6`: value 12, sequence 3, 1."
+    best "C 1 2\nC 2 3\nF 1 5\nF 3 5\nU 3 1 2\nT 3 5 6\n" (true ∷ true ∷ true ∷ []) 12 (3 ∷ 1 ∷ []) ∷
+    -- "`F 9 0`, `T 1 2 2`: option 9 kept, value 0."
+    best "F 9 0\nT 1 2 2\n" (true ∷ []) 0 (9 ∷ []) ∷
+    -- "Each followed by `T 1 2 2`. `F 05 1`: 4 at 1, 4. `F 5`: 4 at 1, 4 (the line end). `F 123456 1`: 4 at 1, 8."
+    refused "F 05 1\nT 1 2 2\n" 4 1 4 ∷
+    refused "F 5\nT 1 2 2\n" 4 1 4 ∷
+    refused "F 123456 1\nT 1 2 2\n" 4 1 8 ∷
+    -- "Followed by `T 1 2 2`, `F 251 1`: 5 at 1, 3; `F 250 9999` passes. `C 7 7`, `T 2 2 2`: 8 at 1, 5."
+    refused "F 251 1\nT 1 2 2\n" 5 1 3 ∷
+    accepted "F 250 9999\nT 1 2 2\n" ∷
+    refused "C 7 7\nT 2 2 2\n" 8 1 5 ∷
+    -- "Keeping heavy options first: `X 1 2`, `X 1 3` with weights 5, 3, 3 has best value 6, not 5."
+    best "X 1 2\nX 1 3\nF 1 5\nF 2 3\nF 3 3\nT 3 6 6\n" (false ∷ true ∷ true ∷ []) 6 (2 ∷ 3 ∷ []) ∷
+    []
 
 -- ---- why they hold: what is computed is what is claimed, by the laws about `best-of` and `sequence-of-choice`
 record BestComputed (text : String) (keeps : List Bool) (value : ℕ) (sequence : List ℕ) : Type 0 where
@@ -135,10 +144,14 @@ Computed (limits text d l) = (answer-to text ≡ Accepted) × ((s : Lines) × (l
 holds : (c : Case) → Computed c → Holds c
 holds (refused text number line column) e = e
 holds (accepted text) e = e
-holds (best text keeps value sequence) e = (e .reads, subst (λ s. BestIs s keeps value sequence) (sym (e .has)) (record {
-  best = subst (BestOf (e .lines)) (e .best) (best-of-is-best (e .lines));
-  worth = e .worth;
-  in-sequence = sequence-of-choice-is (e .lines) keeps (proper-out (e .lines) (e .proper)) sequence .0 (e .places) }))
+holds (best text keeps value sequence) e = (
+  e .reads,
+  subst (λ s. BestIs s keeps value sequence) (sym (e .has)) (record {
+    best = subst (BestOf (e .lines)) (e .best) (best-of-is-best (e .lines));
+    worth = e .worth;
+    in-sequence = sequence-of-choice-is (e .lines) keeps (proper-out (e .lines) (e .proper)) sequence .0 (e .places);
+  }),
+)
 holds (limits text d l) e = (e .0, subst (λ s. limits-of s d ≡ l) (sym (e .1 .1)) (e .1 .2))
 
 all-hold : (l : List Case) → All Computed l → All Holds l
@@ -159,15 +172,58 @@ lines-P = of-lines (C 3 1 ∷ X 2 4 ∷ []) (F 1 5 ∷ F 2 3 ∷ F 3 4 ∷ F 4 2
 
 all-computed : All Computed cases
 unfolding read-lines read-body read-trailed read-sheet lines-of some-below slots list-of sum through subscription kept-by-slot value value-of decided-by-slot ordering-kept option-kept known-from-the-start known-before option-dropped ordering-dropped contradiction forced-option forced-ordering forced M K D clash A B E whole-lower whole-upper option-kept-lower option-kept-upper option-dropped-lower option-dropped-upper ordering-kept-lower ordering-kept-upper ordering-dropped-lower ordering-dropped-upper precedes without option-limit ordering-limit limits-of lacks-an-option acyclic is-relaxation is-consistent smallest-ready placed numbers-in-sequence sequence-of-choice first-best best-of number-again good-ends is-proper
-all-computed =
-  (record { reads = refl; lines = lines-P; has = refl; proper = tt; best = refl; worth = refl; places = refl }, ((refl, (lines-P, refl, refl)), ((refl, (lines-P, refl, refl)),
-  (record { reads = refl; lines = (of-lines [] [] []); has = refl; proper = tt; best = refl; worth = refl; places = refl }, (refl, (refl,
-  (record { reads = refl; lines = (of-lines (X 1 2 ∷ []) (F 2 5 ∷ F 1 5 ∷ []) []); has = refl; proper = tt; best = refl; worth = refl; places = refl },
-  (record { reads = refl; lines = (of-lines (C 1 2 ∷ C 2 3 ∷ C 3 1 ∷ []) (F 1 5 ∷ F 2 4 ∷ F 3 3 ∷ []) []); has = refl; proper = tt; best = refl; worth = refl; places = refl },
-  (record { reads = refl; lines = (of-lines [] (F 1 1 ∷ F 2 1 ∷ []) (U 1 2 4 ∷ U 2 1 4 ∷ [])); has = refl; proper = tt; best = refl; worth = refl; places = refl },
-  (record { reads = refl; lines = (of-lines (C 1 2 ∷ C 2 3 ∷ []) (F 1 5 ∷ F 3 5 ∷ []) (U 3 1 2 ∷ [])); has = refl; proper = tt; best = refl; worth = refl; places = refl },
-  (record { reads = refl; lines = (of-lines [] (F 9 0 ∷ []) []); has = refl; proper = tt; best = refl; worth = refl; places = refl }, (refl, (refl, (refl, (refl, (refl, (refl,
-  (record { reads = refl; lines = (of-lines (X 1 2 ∷ X 1 3 ∷ []) (F 1 5 ∷ F 2 3 ∷ F 3 3 ∷ []) []); has = refl; proper = tt; best = refl; worth = refl; places = refl }, tt))))))))))))))))))
+all-computed = (
+  record { reads = refl; lines = lines-P; has = refl; proper = tt; best = refl; worth = refl; places = refl },
+  (
+    (refl, (lines-P, refl, refl)),
+    (
+      (refl, (lines-P, refl, refl)),
+      (
+        record { reads = refl; lines = (of-lines [] [] []); has = refl; proper = tt; best = refl; worth = refl; places = refl },
+        (
+          refl,
+          (
+            refl,
+            (
+              record { reads = refl; lines = (of-lines (X 1 2 ∷ []) (F 2 5 ∷ F 1 5 ∷ []) []); has = refl; proper = tt; best = refl; worth = refl; places = refl },
+              (
+                record { reads = refl; lines = (of-lines (C 1 2 ∷ C 2 3 ∷ C 3 1 ∷ []) (F 1 5 ∷ F 2 4 ∷ F 3 3 ∷ []) []); has = refl; proper = tt; best = refl; worth = refl; places = refl },
+                (
+                  record { reads = refl; lines = (of-lines [] (F 1 1 ∷ F 2 1 ∷ []) (U 1 2 4 ∷ U 2 1 4 ∷ [])); has = refl; proper = tt; best = refl; worth = refl; places = refl },
+                  (
+                    record { reads = refl; lines = (of-lines (C 1 2 ∷ C 2 3 ∷ []) (F 1 5 ∷ F 3 5 ∷ []) (U 3 1 2 ∷ [])); has = refl; proper = tt; best = refl; worth = refl; places = refl },
+                    (
+                      record { reads = refl; lines = (of-lines [] (F 9 0 ∷ []) []); has = refl; proper = tt; best = refl; worth = refl; places = refl },
+                      (
+                        refl,
+                        (
+                          refl,
+                          (
+                            refl,
+                            (
+                              refl,
+                              (
+                                refl,
+                                (
+                                  refl,
+                                  (record { reads = refl; lines = (of-lines (X 1 2 ∷ X 1 3 ∷ []) (F 1 5 ∷ F 2 3 ∷ F 3 3 ∷ []) []); has = refl; proper = tt; best = refl; worth = refl; places = refl }, tt),
+                                ),
+                              ),
+                            ),
+                          ),
+                        ),
+                      ),
+                    ),
+                  ),
+                ),
+              ),
+            ),
+          ),
+        ),
+      ),
+    ),
+  ),
+)
 
 -- THE ONE CLAIM.
 pub cases-hold : All Holds cases

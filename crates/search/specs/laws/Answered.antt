@@ -59,18 +59,25 @@ answered-is s f =
 -- ---- the arrays of a record that obeys the rule
 pub shows-of : (s : Sheet) (b : BySlot) → ShownBy s b → ShowsSheet (lines-of s) (s .«option_count») (s .«ordering_count») (b .firsts) (b .seconds) (b .rows) (s .weights) (s .«ordering_weights»)
 shows-of s b shown = record {
-  options = option-lines s; orderings = ordering-lines s; proper = recorded-proper s (shown .recorded); shows = shown .shows;
-  weighs = record { weight = slot-weight s; ordering-weight = slot-ordering-weight s } }
+  options = option-lines s;
+  orderings = ordering-lines s;
+  proper = recorded-proper s (shown .recorded);
+  shows = shown .shows;
+  weighs = record { weight = slot-weight s; ordering-weight = slot-ordering-weight s };
+}
 
 pub arrays-of : (s : Sheet) (b : BySlot) → ShownBy s b → Arrays (s .«option_count») (s .«ordering_count») (b .firsts) (b .seconds) (b .rows) (s .weights) (s .«ordering_weights»)
 arrays-of s b shown = let R = shown .recorded in record {
   ends = shown .ends;
   weights = record {
-    few-options = R .few-options; few-orderings = R .few-orderings;
+    few-options = R .few-options;
+    few-orderings = R .few-orderings;
     weight-size = (let z = R .few-options in let k = R .lengths .weights in omega arith);
-    ordering-weight-size = (let z = R .few-orderings in let k = R .lengths .«ordering_weights» in omega arith) };
+    ordering-weight-size = (let z = R .few-orderings in let k = R .lengths .«ordering_weights» in omega arith);
+  };
   lines = lines-of s;
-  of = shows-of s b shown }
+  of = shows-of s b shown;
+}
 
 -- The arrays' answer is the sheet's.
 pub answers-of : (s : Sheet) (tolerance : ℕ) {firsts seconds rows : List ℕ}

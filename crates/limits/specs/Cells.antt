@@ -7,10 +7,10 @@ use lib.Dec.{eqb}
 use Rattle.rules.specs.Slots.{over}
 use Rattle.rules.specs.laws.Tests.{test}
 use Rattle.rows.specs.Bits.{has}
-use Rattle.limits.specs.Weights.{weight-in}
-use Rattle.limits.specs.Half.{clashes-in, weight-of-sets}
+use Rattle.half.specs.Weights.{weight-in}
+use Rattle.half.specs.Half.{clashes-in, weight-of-sets}
 use Rattle.limits.specs.declared.cells.Limit.{Limit}
-use Rattle.limits.specs.declared.half.Half.{Half}
+use Rattle.half.specs.declared.opened.Half.{Half}
 
 abbrev pub no-limit : Limit
 no-limit = record { «kept_lower» = 0; «kept_upper» = 0; «dropped_lower» = 0; «dropped_upper» = 0 }

@@ -1,7 +1,4 @@
-pub mod Weights
-pub mod Half
 pub mod Cells
-pub mod Filled
 pub mod Limited
 pub mod Answer
 pub mod laws

@@ -12,9 +12,9 @@ use Rattle.rules.specs.Limits.{A, whole-lower, whole-upper}
 use Rattle.given.specs.Given.{undecided, Gives, choice-of}
 use Rattle.graph.specs.Shown.{counted, Shows}
 use Rattle.rules.specs.Results.{option-limit, ordering-limit}
-use Rattle.limits.specs.Weights.{Weighs}
+use Rattle.half.specs.Weights.{Weighs}
 use Rattle.limits.specs.Cells.{no-limit}
-use Rattle.limits.specs.Filled.{filled}
+use Rattle.half.specs.Filled.{filled}
 use Rattle.rules.specs.Results as R
 use Rattle.given.specs.declared.sets.Given.{Given}
 use Rattle.limits.specs.declared.cells.Limit.{Limit}

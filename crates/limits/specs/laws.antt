@@ -1,8 +1,5 @@
-pub mod Weights
 pub mod Charges
-pub mod Half
 pub mod Cells
-pub mod Filled
 pub mod Table
 pub mod Limited
 pub mod Padded

@@ -1,7 +1,7 @@
 // The limits of one item.
-use crate::half::Half;
-use crate::weights::weigh;
-use crate::weights::weigh_both;
+use half::Half;
+use half::weigh;
+use half::weigh_both;
 ghost use mathlib.Core.Path.{_≡_};
 ghost use mathlib.Core.Bool.{true, _&&_, _||_, not};
 ghost use Prim.Native.Nat.{ℕ, _+_, _*_, _≤_, _<_};
@@ -10,8 +10,8 @@ ghost use lib.Dec.{eqb};
 ghost use Rattle.rows.specs.Bits.{has};
 ghost use Rattle.rows.specs.Sets.{Holds};
 ghost use Rattle.graph.specs.Graph.{EndsAreSlots};
-ghost use Rattle.limits.specs.Weights.{HasWeights};
-ghost use Rattle.limits.specs.Half.{clashes-in, OpenFits};
+ghost use Rattle.half.specs.Weights.{HasWeights};
+ghost use Rattle.half.specs.Half.{clashes-in, OpenFits};
 ghost use Rattle.limits.specs.Cells.{no-limit, weight-with-orderings-in, option-limit-in, ordering-limit-in};
 
 // What a value lies between, if an item is kept and if it is dropped.

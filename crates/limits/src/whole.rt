@@ -3,9 +3,8 @@ use crate::cells::Limit;
 use crate::cells::no_limit;
 use crate::cells::option_limit;
 use crate::cells::ordering_limit;
-use crate::half::Half;
-use crate::half::half_decided;
 use given::Given;
+use half::Half;
 use sheet::Choice;
 use sheet::Decision;
 use sheet::Decisions;
@@ -16,10 +15,10 @@ ghost use Rattle.rows.specs.Bits.{has};
 ghost use Rattle.graph.specs.Graph.{EndsAreSlots};
 ghost use Rattle.rules.specs.Forced.{decision-of};
 ghost use Rattle.given.specs.Given.{undecided, choice-of};
-ghost use Rattle.limits.specs.Weights.{HasWeights};
-ghost use Rattle.limits.specs.Half.{OpenFits};
+ghost use Rattle.half.specs.Weights.{HasWeights};
+ghost use Rattle.half.specs.Half.{OpenFits};
 ghost use Rattle.limits.specs.Cells.{no-limit, option-limit-in, ordering-limit-in};
-ghost use Rattle.limits.specs.Filled.{filled};
+ghost use Rattle.half.specs.Filled.{filled};
 ghost use Rattle.limits.specs.Limited.{contradictory, LimitedBy};
 
 // The whole answer: forced decisions, and what the values lie between.
@@ -30,53 +29,6 @@ pub struct Limited {
     pub upper: u32,
     pub options: [Limit; 32],
     pub orderings: [Limit; 64],
-}
-
-// An item's decision.
-pub fn decided(kept: bool, dropped: bool) -> Choice
-    ensures { λ r. ⌜ r ≡ choice-of (decision-of kept dropped) ⌝ }
-{
-    if kept {
-        return Choice(Decision::Kept);
-    }
-    if dropped {
-        return Choice(Decision::Dropped);
-    }
-    Choice(Decision::Open)
-}
-
-pub fn options_decided(kept: u32, dropped: u32, n: usize) -> [Choice; 32]
-    requires { ⌜ n ≤ 32 ⌝ }
-    ensures { λ r. ⌜ r ≡ filled 32 n (λ i. choice-of (decision-of (has kept i) (has dropped i))) undecided ⌝ }
-{
-    let o = Choice(Decision::Open);
-    let mut l = [o; 32];
-    let mut i: usize = 0;
-    while i < n {
-        let x = rows::get(kept, i);
-        let y = rows::get(dropped, i);
-        let c = decided(x, y);
-        l[i] = c;
-        i += 1;
-    }
-    l
-}
-
-pub fn orderings_decided(kept: u64, dropped: u64, m: usize) -> [Choice; 64]
-    requires { ⌜ m ≤ 64 ⌝ }
-    ensures { λ r. ⌜ r ≡ filled 64 m (λ u. choice-of (decision-of (has kept u) (has dropped u))) undecided ⌝ }
-{
-    let o = Choice(Decision::Open);
-    let mut l = [o; 64];
-    let mut u: usize = 0;
-    while u < m {
-        let x = rows::get64(kept, u);
-        let y = rows::get64(dropped, u);
-        let c = decided(x, y);
-        l[u] = c;
-        u += 1;
-    }
-    l
 }
 
 pub fn option_limits(
@@ -166,9 +118,9 @@ pub fn limits_of<'a>(
     if clash {
         return contradictory();
     }
-    let h = half_decided(f, weights, ordering_weights, n, m);
-    let o = options_decided(f.kept, f.dropped, n);
-    let u = orderings_decided(f.kept_orderings, f.dropped_orderings, m);
+    let h = half::half_decided(f, weights, ordering_weights, n, m);
+    let o = half::options_decided(f.kept, f.dropped, n);
+    let u = half::orderings_decided(f.kept_orderings, f.dropped_orderings, m);
     let e = Decisions {
         options: o,
         orderings: u,

@@ -12,7 +12,7 @@ use Rattle.rules.specs.laws.search.Finds.{Finds}
 use Rattle.rows.specs.Bits.{has}
 use Rattle.graph.specs.Graph.{EndsAreSlots}
 use Rattle.graph.specs.Shown.{Shows}
-use Rattle.limits.specs.Weights.{HasWeights, Weighs}
+use Rattle.half.specs.Weights.{HasWeights, Weighs}
 use Rattle.given.specs.declared.sets.Given.{Given}
 use Rattle.search.specs.State.{decisions-of, shown}
 use Rattle.search.specs.declared.leaf.SoFar.{SoFar}

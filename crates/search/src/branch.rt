@@ -33,7 +33,7 @@ pub fn branch<'a>(
     if contradiction {
         return a;
     }
-    let h = limits::half_decided(f, weights, ordering_weights, n, m);
+    let h = half::half_decided(f, weights, ordering_weights, n, m);
     if is_needless(a, tolerance, h.upper) {
         return a;
     }

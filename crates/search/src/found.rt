@@ -83,7 +83,7 @@ pub fn found_in<'a>(
         m,
     );
     let f = forced::force(g, t, first, second, n, m);
-    let h = limits::half_decided(f, weights, ordering_weights, n, m);
+    let h = half::half_decided(f, weights, ordering_weights, n, m);
     let value = worth(b);
     let ceiling = least(h.upper, value + tolerance);
     Found {

@@ -43,10 +43,10 @@ pub fn accepted(f: Found, n: usize, m: usize) -> Searched
     requires { ⌜ (n ≤ 32) × (m ≤ 64) ⌝ }
     ensures { λ r. ⌜ r ≡ accepted f n m ⌝ }
 {
-    let rest = limits::open_options(f.kept, 0, n);
-    let rest_orderings = limits::open_orderings(f.kept_orderings, 0, m);
-    let options = limits::options_decided(f.kept, rest, n);
-    let orderings = limits::orderings_decided(f.kept_orderings, rest_orderings, m);
+    let rest = half::open_options(f.kept, 0, n);
+    let rest_orderings = half::open_orderings(f.kept_orderings, 0, m);
+    let options = half::options_decided(f.kept, rest, n);
+    let orderings = half::orderings_decided(f.kept_orderings, rest_orderings, m);
     let decisions = Decisions {
         options: options,
         orderings: orderings,

@@ -14,7 +14,7 @@ use Rattle.rules.specs.Limits.{A, B}
 use Rattle.given.specs.Given.{undecided, decided-as, Gives, decided-past, choice-of, decision-list}
 use Rattle.rules.specs.Results.{option-limit, ordering-limit, limits-of}
 use Rattle.limits.specs.Cells.{no-limit}
-use Rattle.limits.specs.Filled.{filled}
+use Rattle.half.specs.Filled.{filled}
 use Rattle.limits.specs.Limited.{shown-limit, contradictory, without-contradiction, limited-as, LimitedBy}
 use Rattle.subscription.specs.Shown.{ShownBy}
 use Rattle.given.specs.laws.List.{take-list-of, drop-list-of, gives-list}

@@ -12,13 +12,13 @@ use Rattle.rows.specs.Sets.{Holds}
 use Rattle.rows.specs.laws.Bits.{has-joined, has-none, has-met, has-with-slot}
 use Rattle.rows.specs.laws.Sets.{holds-at}
 use Rattle.graph.specs.Graph.{EndsAreSlots}
-use Rattle.limits.specs.Weights.{weight-in}
-use Rattle.limits.specs.Half.{clashes-in, weight-of-sets}
+use Rattle.half.specs.Weights.{weight-in}
+use Rattle.half.specs.Half.{clashes-in, weight-of-sets}
 use Rattle.limits.specs.Cells.{no-limit, open-option-in, open-ordering-in, weight-with-orderings-in, option-limit-in, ordering-limit-in}
-use Rattle.limits.specs.laws.Weights.{over-same-tests}
+use Rattle.half.specs.laws.Weights.{over-same-tests}
 use Rattle.limits.specs.laws.Charges.{same-weight-with-orderings}
 use Rattle.limits.specs.declared.cells.Limit.{Limit}
-use Rattle.limits.specs.declared.half.Half.{Half}
+use Rattle.half.specs.declared.opened.Half.{Half}
 
 module _ (h : Half) (n m : ℕ) (firsts seconds ws bs : List ℕ) where
   pub charge-of-set : (set : ℕ) {x y r : ℕ} → x ≡ met (h .«open_options») set → Holds y m (λ u. has (h .«open_orderings») u && (has x (getD firsts u 0) || has x (getD seconds u 0)))

@@ -10,12 +10,12 @@ use Rattle.rules.specs.laws.Tests.{and-l}
 use Rattle.rules.specs.laws.Sums.{over-one}
 use Rattle.rows.specs.Bits.{has}
 use Rattle.graph.specs.Graph.{EndsAreSlots}
-use Rattle.limits.specs.Weights.{weight-in}
-use Rattle.limits.specs.Half.{OpenFits}
+use Rattle.half.specs.Weights.{weight-in}
+use Rattle.half.specs.Half.{OpenFits}
 use Rattle.limits.specs.Cells.{open-option-in, open-ordering-in, weight-with-orderings-in}
-use Rattle.limits.specs.laws.Weights.{over-same-tests, over-mono}
+use Rattle.half.specs.laws.Weights.{over-same-tests, over-mono}
 use Rattle.limits.specs.declared.cells.Limit.{Limit}
-use Rattle.limits.specs.declared.half.Half.{Half}
+use Rattle.half.specs.declared.opened.Half.{Half}
 
 module _ (h : Half) (n m : ℕ) (firsts seconds ws bs : List ℕ) where
   pub same-weight-with-orderings : EndsAreSlots n m firsts seconds → (p q : ℕ → Bool) → ((j : ℕ) → j < n → p j ≡ q j) → weight-with-orderings-in h n m firsts seconds ws bs p ≡ weight-with-orderings-in h n m firsts seconds ws bs q

@@ -11,18 +11,18 @@ use Rattle.graph.specs.Graph.{EndsAreSlots}
 use Rattle.given.specs.Given.{undecided, choice-of}
 use Rattle.graph.specs.Shown.{counted}
 use Rattle.forced.specs.Forced.{ForcedAs, ForcedBy}
-use Rattle.limits.specs.Half.{HalfDecidedAs}
+use Rattle.half.specs.Half.{HalfDecidedAs}
 use Rattle.limits.specs.Cells.{no-limit, option-limit-in, ordering-limit-in}
-use Rattle.limits.specs.Filled.{filled}
+use Rattle.half.specs.Filled.{filled}
 use Rattle.limits.specs.Limited.{contradictory, limited-as, LimitedBy}
-use Rattle.limits.specs.laws.Filled.{filled-same}
+use Rattle.half.specs.laws.Filled.{filled-same}
 use Rattle.limits.specs.laws.Table.{lower-is, upper-is, option-limit-is, ordering-limit-is}
 use Rattle.sheet.specs.declared.decision.Choice.{Choice}
 use Rattle.given.specs.declared.sets.Given.{Given}
 use Rattle.limits.specs.declared.whole.Limited.{Limited}
 use Rattle.forced.specs.declared.forcing.Forced.{Forced}
 use Rattle.limits.specs.declared.cells.Limit.{Limit}
-use Rattle.limits.specs.declared.half.Half.{Half}
+use Rattle.half.specs.declared.opened.Half.{Half}
 
 module _ (n m : ℕ) (firsts seconds ws bs rows : List ℕ) (g : Given) (f : Forced) (by : ForcedBy n m firsts seconds rows g f) where
   pub limited-contradiction : f .contradiction ≡ true → LimitedBy n m firsts seconds ws bs rows g contradictory

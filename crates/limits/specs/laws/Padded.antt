@@ -7,7 +7,7 @@ use Rattle.rules.specs.Slots.{list-of}
 use Rattle.rules.specs.Decisions.{all-open}
 use Rattle.rules.specs.Limits.{A, B}
 use Rattle.given.specs.Given.{undecided, choice-of}
-use Rattle.limits.specs.Filled.{filled}
+use Rattle.half.specs.Filled.{filled}
 use Rattle.limits.specs.Answer.{padded}
 use Rattle.rules.specs.Decisions as R
 

@@ -18,17 +18,17 @@ use Rattle.graph.specs.Graph.{EndsAreSlots}
 use Rattle.graph.specs.Shown.{counted, Shows}
 use Rattle.forced.specs.Forced.{ForcedAs}
 use Rattle.rules.specs.Results.{option-limit, ordering-limit}
-use Rattle.limits.specs.Weights.{weight-in, Weighs}
-use Rattle.limits.specs.Half.{clashes-in, HalfDecidedAs}
+use Rattle.half.specs.Weights.{weight-in, Weighs}
+use Rattle.half.specs.Half.{clashes-in, HalfDecidedAs}
 use Rattle.limits.specs.Cells.{no-limit, open-option-in, open-ordering-in, weight-with-orderings-in, option-limit-in, ordering-limit-in}
 use Rattle.limits.specs.Limited.{shown-limit}
-use Rattle.limits.specs.laws.Weights.{over-same, over-same-tests}
+use Rattle.half.specs.laws.Weights.{over-same, over-same-tests}
 use Rattle.limits.specs.laws.Charges.{same-weight-with-orderings}
 use Rattle.rules.specs.Results as R
 use Rattle.rules.specs.Results.{option-limit, ordering-limit}
 use Rattle.forced.specs.declared.forcing.Forced.{Forced}
 use Rattle.limits.specs.declared.cells.Limit.{Limit}
-use Rattle.limits.specs.declared.half.Half.{Half}
+use Rattle.half.specs.declared.opened.Half.{Half}
 
 pub eqb-turn : (i j : ℕ) → eqb i j ≡ eqb j i
 eqb-turn i j = go (ℕ-discrete i j)

@@ -29,11 +29,11 @@ use Rattle.rows.specs.laws.Bits.{has-with-slot}
 use Rattle.rows.specs.laws.Sets.{holds-at}
 use Rattle.graph.specs.Shown.{counted}
 use Rattle.forced.specs.Forced.{ForcedAs, ForcedBy}
-use Rattle.limits.specs.Half.{HalfDecidedAs}
+use Rattle.half.specs.Half.{HalfDecidedAs}
 use Rattle.limits.specs.laws.Table.{lower-is, upper-is}
 use Rattle.given.specs.declared.sets.Given.{Given}
 use Rattle.forced.specs.declared.forcing.Forced.{Forced}
-use Rattle.limits.specs.declared.half.Half.{Half}
+use Rattle.half.specs.declared.opened.Half.{Half}
 use Rattle.search.specs.First.{FirstOf}
 use Rattle.search.specs.State.{decisions-of, chosen-list, found-if, shown, needless, taken, sets-of, with-option-kept, with-option-dropped, with-ordering-kept, with-ordering-dropped}
 use Rattle.search.specs.Branch.{ShowsSheet, Arrays, Apart, Branched}

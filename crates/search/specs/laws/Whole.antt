@@ -28,10 +28,10 @@ use Rattle.rules.specs.laws.search.Answers.{one-pass-answers}
 use Rattle.rows.specs.Bits.{has}
 use Rattle.rows.specs.laws.Bits.{has-none}
 use Rattle.forced.specs.Forced.{ForcedBy}
-use Rattle.limits.specs.Half.{HalfDecidedAs}
+use Rattle.half.specs.Half.{HalfDecidedAs}
 use Rattle.given.specs.declared.sets.Given.{Given}
 use Rattle.forced.specs.declared.forcing.Forced.{Forced}
-use Rattle.limits.specs.declared.half.Half.{Half}
+use Rattle.half.specs.declared.opened.Half.{Half}
 use Rattle.search.specs.State.{decisions-of, chosen-list, found-if, shown, nothing-given, nothing-found}
 use Rattle.search.specs.Branch.{ShowsSheet, Arrays, Apart, Branched}
 use Rattle.search.specs.Search.{answer-in, FoundBy}

@@ -7,7 +7,7 @@ use borrow.Author.Needs.{needs}
 use lib.ListN.{getD}
 use Rattle.rows.specs.Sets.{Holds}
 use Rattle.rows.specs.laws.Sets.{holds-none, holds-step, holds-end}
-use Rattle.limits.specs.Half.{clashes-in}
+use Rattle.half.specs.Half.{clashes-in}
 use Rattle.limits.proofs.cells.clash_row.Statement.{statement}
 use Rattle.limits.proofs.cells.clash_row.Tie as tie
 

@@ -12,7 +12,7 @@ use Rattle.search.proofs.branch.branch.Reads as branch
 use Rattle.search.proofs.branch.branch.Kinds as branch-kinds
 use Rattle.search.proofs.branch.+branch.Lts-branch as branch-lts
 use Rattle.forced.proofs.force.Reads as force-reads
-use Rattle.limits.proofs.half_decided.Reads as half-decided-reads
+use Rattle.half.proofs.half_decided.Reads as half-decided-reads
 use Rattle.search.proofs.first.first_of.Reads as first-of-reads
 use Rattle.search.proofs.leaf.drop_option.Reads as drop-option-reads
 use Rattle.search.proofs.leaf.drop_ordering.Reads as drop-ordering-reads

@@ -9,7 +9,7 @@ use Rattle.search.proofs.found.found_in.Tie as tie
 use Rattle.search.proofs.found.found_in.Reads as reads
 use Rattle.search.proofs.found.found_in.Lts as lts
 use Rattle.forced.proofs.force.Reads as force-reads
-use Rattle.limits.proofs.half_decided.Reads as half-decided-reads
+use Rattle.half.proofs.half_decided.Reads as half-decided-reads
 use Rattle.search.proofs.branch.branch.Reads as branch-reads
 use Rattle.search.proofs.found.least.Reads as least-reads
 use Rattle.search.proofs.found.nothing_found.Reads as nothing-found-reads

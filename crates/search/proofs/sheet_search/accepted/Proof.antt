@@ -6,10 +6,10 @@ use Rattle.search.proofs.sheet_search.accepted.Statement.{statement}
 use Rattle.search.proofs.sheet_search.accepted.Tie as tie
 use Rattle.search.proofs.sheet_search.accepted.Reads as reads
 use Rattle.search.proofs.sheet_search.accepted.Lts as lts
-use Rattle.limits.proofs.open_options.Reads as open-options-reads
-use Rattle.limits.proofs.open_orderings.Reads as open-orderings-reads
-use Rattle.limits.proofs.options_decided.Reads as options-decided-reads
-use Rattle.limits.proofs.orderings_decided.Reads as orderings-decided-reads
+use Rattle.half.proofs.open_options.Reads as open-options-reads
+use Rattle.half.proofs.open_orderings.Reads as open-orderings-reads
+use Rattle.half.proofs.options_decided.Reads as options-decided-reads
+use Rattle.half.proofs.orderings_decided.Reads as orderings-decided-reads
 
 -- src/sheet_search.rt:44:9
 open-options-requires : tie.Need-open-options-requires

@@ -4,7 +4,7 @@ ghost use Prim.Native.Nat.{ℕ, _+_, _*_, _≤_, _<_};
 ghost use lib.ListN.{getD, length};
 ghost use Rattle.rules.specs.Slots.{sum, pick, over};
 ghost use Rattle.rows.specs.Bits.{has};
-ghost use Rattle.limits.specs.Weights.{HasWeights};
+ghost use Rattle.half.specs.Weights.{HasWeights};
 
 // A weight if asked, and else nothing.
 pub fn weight_if(yes: bool, w: u16) -> u32

@@ -6,9 +6,9 @@ use native.Mathlib.Omega.{arith}
 use borrow.Author.Needs.{needs}
 use lib.ListN.{getD}
 use Rattle.rules.specs.Slots.{sum}
-use Rattle.limits.specs.laws.Weights.{sum-step}
-use Rattle.limits.proofs.weights.weigh_all.Statement.{statement}
-use Rattle.limits.proofs.weights.weigh_all.Tie as tie
+use Rattle.half.specs.laws.Weights.{sum-step}
+use Rattle.half.proofs.weights.weigh_all.Statement.{statement}
+use Rattle.half.proofs.weights.weigh_all.Tie as tie
 
 abbrev Inv-loop : tie.InvT-loop
 Inv-loop w n s₀ i₀ s i = (i ≤ n) × (s ≤ 65535 * i) × (s ≡ sum i (λ j. getD w j 0))

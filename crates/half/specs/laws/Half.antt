@@ -9,11 +9,11 @@ use Rattle.rules.specs.Slots.{sum}
 use Rattle.rows.specs.Bits.{has}
 use Rattle.rows.specs.Sets.{Holds}
 use Rattle.rows.specs.laws.Sets.{holds-at}
-use Rattle.limits.specs.Weights.{weight-in}
-use Rattle.limits.specs.Half.{whole-weight, weight-of-sets, HalfDecidedAs}
-use Rattle.limits.specs.laws.Weights.{over-apart}
+use Rattle.half.specs.Weights.{weight-in}
+use Rattle.half.specs.Half.{whole-weight, weight-of-sets, HalfDecidedAs}
+use Rattle.half.specs.laws.Weights.{over-apart}
 use Rattle.forced.specs.declared.forcing.Forced.{Forced}
-use Rattle.limits.specs.declared.half.Half.{Half}
+use Rattle.half.specs.declared.opened.Half.{Half}
 
 -- What is dropped is not open.
 open-apart : (a b c : Bool) → c ≡ not (a || b) → T b → T c → ⊥

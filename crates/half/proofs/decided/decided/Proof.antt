@@ -1,6 +1,6 @@
 -- Kept comes before dropped, as in `decision-of`.
-use Rattle.limits.proofs.whole.decided.Statement.{statement}
-use Rattle.limits.proofs.whole.decided.Tie as tie
+use Rattle.half.proofs.decided.decided.Statement.{statement}
+use Rattle.half.proofs.decided.decided.Tie as tie
 
 returns : tie.Need-returns
 returns c = rw (c .if1 .taken)

@@ -8,8 +8,8 @@ use borrow.Author.Needs.{needs}
 use Rattle.rows.specs.Bits.{has}
 use Rattle.rows.specs.Sets.{Holds}
 use Rattle.rows.specs.laws.Sets.{holds-none, holds-step, holds-end}
-use Rattle.limits.proofs.half.open_orderings.Statement.{statement}
-use Rattle.limits.proofs.half.open_orderings.Tie as tie
+use Rattle.half.proofs.opened.open_orderings.Statement.{statement}
+use Rattle.half.proofs.opened.open_orderings.Tie as tie
 
 abbrev Inv-loop : tie.InvT-loop
 Inv-loop kept dropped m k₀ u₀ k u = (u ≤ m) × Holds k u (λ j. not (has kept j || has dropped j))

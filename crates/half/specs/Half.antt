@@ -8,9 +8,9 @@ use lib.Dec.{eqb}
 use Rattle.rules.specs.Slots.{sum, over}
 use Rattle.rows.specs.Bits.{has, with}
 use Rattle.rows.specs.Sets.{Holds}
-use Rattle.limits.specs.Weights.{weight-in}
+use Rattle.half.specs.Weights.{weight-in}
 use Rattle.forced.specs.declared.forcing.Forced.{Forced}
-use Rattle.limits.specs.declared.half.Half.{Half}
+use Rattle.half.specs.declared.opened.Half.{Half}
 
 -- i and j are different, and each is known before the other.
 unfoldable pub clashes-in : List ℕ → ℕ → ℕ → Bool

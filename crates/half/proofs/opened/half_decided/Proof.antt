@@ -2,9 +2,9 @@
 use native.Mathlib.Omega.{arith}
 use borrow.Author.Needs.{needs}
 use Rattle.rows.specs.Bits.{has}
-use Rattle.limits.specs.laws.Half.{dropped-fits, half-decided-as}
-use Rattle.limits.proofs.half.half_decided.Statement.{statement}
-use Rattle.limits.proofs.half.half_decided.Tie as tie
+use Rattle.half.specs.laws.Half.{dropped-fits, half-decided-as}
+use Rattle.half.proofs.opened.half_decided.Statement.{statement}
+use Rattle.half.proofs.opened.half_decided.Tie as tie
 
 open-options-requires : tie.Need-open-options-requires
 open-options-requires c κs = search needs

@@ -8,8 +8,8 @@ ghost use Prim.Native.Nat.{ℕ, _+_, _*_, _≤_, _<_};
 ghost use lib.ListN.{length, getD};
 ghost use Rattle.rows.specs.Bits.{has};
 ghost use Rattle.rows.specs.Sets.{Holds};
-ghost use Rattle.limits.specs.Weights.{HasWeights};
-ghost use Rattle.limits.specs.Half.{HalfDecidedAs};
+ghost use Rattle.half.specs.Weights.{HasWeights};
+ghost use Rattle.half.specs.Half.{HalfDecidedAs};
 
 // What the limits are worked out from: the open items, what is known, the weight kept and the weight not dropped.
 pub struct Half {

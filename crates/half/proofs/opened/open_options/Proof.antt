@@ -8,8 +8,8 @@ use borrow.Author.Needs.{needs}
 use Rattle.rows.specs.Bits.{has}
 use Rattle.rows.specs.Sets.{Holds}
 use Rattle.rows.specs.laws.Sets.{holds-none, holds-step, holds-end}
-use Rattle.limits.proofs.half.open_options.Statement.{statement}
-use Rattle.limits.proofs.half.open_options.Tie as tie
+use Rattle.half.proofs.opened.open_options.Statement.{statement}
+use Rattle.half.proofs.opened.open_options.Tie as tie
 
 abbrev Inv-loop : tie.InvT-loop
 Inv-loop kept dropped n k₀ i₀ k i = (i ≤ n) × Holds k i (λ j. not (has kept j || has dropped j))

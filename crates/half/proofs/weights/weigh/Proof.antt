@@ -7,9 +7,9 @@ use borrow.Author.Needs.{needs}
 use lib.ListN.{getD, set}
 use Rattle.rules.specs.Slots.{sum, over}
 use Rattle.rows.specs.Bits.{has}
-use Rattle.limits.specs.laws.Weights.{over-step}
-use Rattle.limits.proofs.weights.weigh.Statement.{statement}
-use Rattle.limits.proofs.weights.weigh.Tie as tie
+use Rattle.half.specs.laws.Weights.{over-step}
+use Rattle.half.proofs.weights.weigh.Statement.{statement}
+use Rattle.half.proofs.weights.weigh.Tie as tie
 
 abbrev Inv-loop : tie.InvT-loop
 Inv-loop set w n s₀ i₀ s i = (i ≤ n) × (s ≤ 65535 * i) × (s ≡ over i (λ j. getD w j 0) (has set))

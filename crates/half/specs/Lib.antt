@@ -1,0 +1,4 @@
+pub mod Weights
+pub mod Half
+pub mod Filled
+pub mod laws

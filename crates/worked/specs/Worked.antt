@@ -18,7 +18,7 @@ use Rattle.rules.specs.Forced.{option-dropped, ordering-dropped, contradiction,
 use Rattle.rules.specs.Limits.{M, K, D, clash, A, B, E, whole-lower, whole-upper, option-kept-lower, option-kept-upper, option-dropped-lower, option-dropped-upper, ordering-kept-lower, ordering-kept-upper, ordering-dropped-lower, ordering-dropped-upper}
 use Rattle.rules.specs.Sequence.{precedes, without, SequenceOf}
 use Rattle.rules.specs.Best.{BestOf}
-use Rattle.rules.specs.Results.{Limit, no-limit, Limits, option-limit, ordering-limit, limits-of, lacks-an-option, acyclic, is-relaxation, is-consistent, smallest-ready, placed, numbers-in-sequence, sequence-of-choice, first-best, best-of}
+use Rattle.rules.specs.Results.{Limit, no-limit, Limits, option-limit, ordering-limit, limits-of, lacks-an-option, acyclic, is-relaxation, is-consistent, smallest-ready, placed, numbers-in-sequence, sequence-of-choice, first-best, best-of, best-value, answer-at-nought}
 use Rattle.rules.specs.laws.Proper.{number-again, good-ends, is-proper, proper-out}
 use Rattle.rules.specs.laws.Sequence.{sequence-of-choice-is}
 use Rattle.rules.specs.laws.Best.{best-of-is-best}
@@ -28,6 +28,8 @@ use Rattle.sheet.specs.declared.answer.Answer.{Answer}
 use Rattle.sheet.specs.declared.answer.Answer.the-variants.{Accepted, Refused}
 use Rattle.reader.specs.Lines.{read-lines}
 use Rattle.reader.specs.Read.{read-sheet, read-body, read-trailed}
+use Rattle.report.specs.Line.{digits, decimal}
+use Rattle.report.specs.Report.{each, answer-text, report-of}
 
 -- ---- what a case claims
 pub data Case : Type 0 where
@@ -39,6 +41,8 @@ pub data Case : Type 0 where
   best : String → (keeps : List Bool) → (value : ℕ) → (sequence : List ℕ) → Case
   -- and, so decided, it has these limits
   limits : String → List Decision → Limits → Case
+  -- this is the whole output for this text
+  prints : String → String → Case
 
 abbrev pub bytes : String → List ℕ
 bytes []ˢ = []
@@ -65,10 +69,11 @@ Holds (refused text number line column) = shown (answer-to text) ≡ number ∷ 
 Holds (accepted text) = answer-to text ≡ Accepted
 Holds (best text keeps value sequence) = (answer-to text ≡ Accepted) × BestIs (lines-in text) keeps value sequence
 Holds (limits text d l) = (answer-to text ≡ Accepted) × (limits-of (lines-in text) d ≡ l)
+Holds (prints text output) = report-of (bytes text) ≡ bytes output
 
-abbrev pub All {ℓ} : {A : Type ℓ} → (A → Type 0) → List A → Type 0
+abbrev pub All : (Case → Type 0) → List Case → Type 0
 All P [] = Unit {0}
-All P (x ∷ l) = P x × All P l
+All P (c ∷ l) = P c × All P l
 
 -- ---- the cases
 abbrev from-to : ℕ → ℕ → ℕ → ℕ → Limit
@@ -79,6 +84,10 @@ sheet-P = "C 3 1\nX 2 4\nF 1 5\nF 2 3\nF 3 4\nF 4 2\nU 1 3 6\nU 2 1 1\nT 3 7 9\n
 
 abbrev pub cases : List Case
 cases =
+    -- "Sheet P … The whole output"; "`T 1 1 1`: accepted, prints `V 0 0`"; and a refusal.
+    prints sheet-P "V 13 13\nS 1 2\nS 2 3\nS 3 1\nD 4\nR 1 3\n" ∷
+    prints "T 1 1 1\n" "V 0 0\n" ∷
+    prints "F 05 1\nT 1 2 2\n" "E 4 1 4\n" ∷
     -- "Sheet P: best value 13."
     best sheet-P (true ∷ true ∷ true ∷ false ∷ false ∷ true ∷ []) 13 (2 ∷ 3 ∷ 1 ∷ []) ∷
     -- "Sheet P, all open: `U 1 3` is forced out, whole limits 0 and 15; option 2 kept 3 to 13, dropped 0 to 11; option 4 kept 2 to 11, dropped 0 to 13."
@@ -140,6 +149,7 @@ Computed (refused text number line column) = Holds (refused text number line col
 Computed (accepted text) = Holds (accepted text)
 Computed (best text keeps value sequence) = BestComputed text keeps value sequence
 Computed (limits text d l) = (answer-to text ≡ Accepted) × ((s : Lines) × (lines-in text ≡ s) × (limits-of s d ≡ l))
+Computed (prints text output) = Holds (prints text output)
 
 holds : (c : Case) → Computed c → Holds c
 holds (refused text number line column) e = e
@@ -153,10 +163,11 @@ holds (best text keeps value sequence) e = (
   }),
 )
 holds (limits text d l) e = (e .0, subst (λ s. limits-of s d ≡ l) (sym (e .1 .1)) (e .1 .2))
+holds (prints text output) e = e
 
 all-hold : (l : List Case) → All Computed l → All Holds l
 all-hold [] e = tt
-all-hold (c ∷ l) e = (holds c (e .0), all-hold l (e .1))
+all-hold (c ∷ l) (e, es) = (holds c e, all-hold l es)
 
 abbrev F : ℕ → ℕ → OptionLine
 F a w = record { number = a; weight = w }
@@ -171,42 +182,54 @@ abbrev lines-P : Lines
 lines-P = of-lines (C 3 1 ∷ X 2 4 ∷ []) (F 1 5 ∷ F 2 3 ∷ F 3 4 ∷ F 4 2 ∷ []) (U 1 3 6 ∷ U 2 1 1 ∷ [])
 
 all-computed : All Computed cases
-unfolding read-lines read-body read-trailed read-sheet lines-of some-below slots list-of sum through subscription kept-by-slot value value-of decided-by-slot ordering-kept option-kept known-from-the-start known-before option-dropped ordering-dropped contradiction forced-option forced-ordering forced M K D clash A B E whole-lower whole-upper option-kept-lower option-kept-upper option-dropped-lower option-dropped-upper ordering-kept-lower ordering-kept-upper ordering-dropped-lower ordering-dropped-upper precedes without option-limit ordering-limit limits-of lacks-an-option acyclic is-relaxation is-consistent smallest-ready placed numbers-in-sequence sequence-of-choice first-best best-of number-again good-ends is-proper
+unfolding read-lines read-body read-trailed read-sheet lines-of some-below slots list-of sum through subscription kept-by-slot value value-of decided-by-slot ordering-kept option-kept known-from-the-start known-before option-dropped ordering-dropped contradiction forced-option forced-ordering forced M K D clash A B E whole-lower whole-upper option-kept-lower option-kept-upper option-dropped-lower option-dropped-upper ordering-kept-lower ordering-kept-upper ordering-dropped-lower ordering-dropped-upper precedes without option-limit ordering-limit limits-of lacks-an-option acyclic is-relaxation is-consistent smallest-ready placed numbers-in-sequence sequence-of-choice first-best best-of best-value answer-at-nought digits decimal each answer-text report-of number-again good-ends is-proper
 all-computed = (
-  record { reads = refl; lines = lines-P; has = refl; proper = tt; best = refl; worth = refl; places = refl },
+  refl,
   (
-    (refl, (lines-P, refl, refl)),
+    refl,
     (
-      (refl, (lines-P, refl, refl)),
+      refl,
       (
-        record { reads = refl; lines = (of-lines [] [] []); has = refl; proper = tt; best = refl; worth = refl; places = refl },
+        record { reads = refl; lines = lines-P; has = refl; proper = tt; best = refl; worth = refl; places = refl },
         (
-          refl,
+          (refl, (lines-P, refl, refl)),
           (
-            refl,
+            (refl, (lines-P, refl, refl)),
             (
-              record { reads = refl; lines = (of-lines (X 1 2 ∷ []) (F 2 5 ∷ F 1 5 ∷ []) []); has = refl; proper = tt; best = refl; worth = refl; places = refl },
+              record { reads = refl; lines = (of-lines [] [] []); has = refl; proper = tt; best = refl; worth = refl; places = refl },
               (
-                record { reads = refl; lines = (of-lines (C 1 2 ∷ C 2 3 ∷ C 3 1 ∷ []) (F 1 5 ∷ F 2 4 ∷ F 3 3 ∷ []) []); has = refl; proper = tt; best = refl; worth = refl; places = refl },
+                refl,
                 (
-                  record { reads = refl; lines = (of-lines [] (F 1 1 ∷ F 2 1 ∷ []) (U 1 2 4 ∷ U 2 1 4 ∷ [])); has = refl; proper = tt; best = refl; worth = refl; places = refl },
+                  refl,
                   (
-                    record { reads = refl; lines = (of-lines (C 1 2 ∷ C 2 3 ∷ []) (F 1 5 ∷ F 3 5 ∷ []) (U 3 1 2 ∷ [])); has = refl; proper = tt; best = refl; worth = refl; places = refl },
+                    record { reads = refl; lines = (of-lines (X 1 2 ∷ []) (F 2 5 ∷ F 1 5 ∷ []) []); has = refl; proper = tt; best = refl; worth = refl; places = refl },
                     (
-                      record { reads = refl; lines = (of-lines [] (F 9 0 ∷ []) []); has = refl; proper = tt; best = refl; worth = refl; places = refl },
+                      record { reads = refl; lines = (of-lines (C 1 2 ∷ C 2 3 ∷ C 3 1 ∷ []) (F 1 5 ∷ F 2 4 ∷ F 3 3 ∷ []) []); has = refl; proper = tt; best = refl; worth = refl; places = refl },
                       (
-                        refl,
+                        record { reads = refl; lines = (of-lines [] (F 1 1 ∷ F 2 1 ∷ []) (U 1 2 4 ∷ U 2 1 4 ∷ [])); has = refl; proper = tt; best = refl; worth = refl; places = refl },
                         (
-                          refl,
+                          record { reads = refl; lines = (of-lines (C 1 2 ∷ C 2 3 ∷ []) (F 1 5 ∷ F 3 5 ∷ []) (U 3 1 2 ∷ [])); has = refl; proper = tt; best = refl; worth = refl; places = refl },
                           (
-                            refl,
+                            record { reads = refl; lines = (of-lines [] (F 9 0 ∷ []) []); has = refl; proper = tt; best = refl; worth = refl; places = refl },
                             (
                               refl,
                               (
                                 refl,
                                 (
                                   refl,
-                                  (record { reads = refl; lines = (of-lines (X 1 2 ∷ X 1 3 ∷ []) (F 1 5 ∷ F 2 3 ∷ F 3 3 ∷ []) []); has = refl; proper = tt; best = refl; worth = refl; places = refl }, tt),
+                                  (
+                                    refl,
+                                    (
+                                      refl,
+                                      (
+                                        refl,
+                                        (
+                                          record { reads = refl; lines = (of-lines (X 1 2 ∷ X 1 3 ∷ []) (F 1 5 ∷ F 2 3 ∷ F 3 3 ∷ []) []); has = refl; proper = tt; best = refl; worth = refl; places = refl },
+                                          tt,
+                                        ),
+                                      ),
+                                    ),
+                                  ),
                                 ),
                               ),
                             ),

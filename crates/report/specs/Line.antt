@@ -1,0 +1,27 @@
+-- A line of the report.
+use Prim.Native.Nat.{ℕ, zero, suc, _+_, _/_, _%_}
+use mathlib.Core.Bool.{Bool, true, false}
+use mathlib.Core.List.{List, [], _∷_, _++_}
+use lib.Dec.{ltb}
+
+-- Nothing before a number's first digit.
+abbrev pub unless-first : Bool → (ℕ → List ℕ) → ℕ → List ℕ
+unless-first true before n = []
+unless-first false before n = before n
+
+-- The digits of n, at most k of them.
+unfoldable pub digits : ℕ → ℕ → List ℕ
+digits zero n = []
+digits (suc k) n = unless-first (ltb n 10) (digits k) (n / 10) ++ ((48 + n % 10) ∷ [])
+
+-- A number of any size in decimal, without a leading 0. (It has no more digits than one more than it counts.)
+unfoldable pub decimal : ℕ → List ℕ
+decimal n = digits (suc n) n
+
+abbrev pub fields-text : List ℕ → List ℕ
+fields-text [] = 10 ∷ []
+fields-text (n ∷ ns) = 32 ∷ decimal n ++ fields-text ns
+
+-- "Each line ends with byte 10, the last too": its letter, its numbers, each after a space, and the line end.
+abbrev pub line-text : ℕ → List ℕ → List ℕ
+line-text letter ns = letter ∷ fields-text ns

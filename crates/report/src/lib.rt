@@ -1,0 +1,8 @@
+// The report of a sheet, in a lent buffer.
+mod line;
+mod lists;
+mod page;
+mod reporting;
+
+pub use reporting::Reported;
+pub use reporting::report;

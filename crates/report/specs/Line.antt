@@ -14,7 +14,7 @@ unfoldable pub digits : ℕ → ℕ → List ℕ
 digits zero n = []
 digits (suc k) n = unless-first (ltb n 10) (digits k) (n / 10) ++ ((48 + n % 10) ∷ [])
 
--- A number of any size in decimal, without a leading 0. (It has no more digits than one more than it counts.)
+-- A number of any size in decimal, without a leading 0: n + 1 digits are room enough for any n.
 unfoldable pub decimal : ℕ → List ℕ
 decimal n = digits (suc n) n
 

@@ -17,7 +17,6 @@ use Rattle.sheet.specs.declared.answer.Answer.{Answer}
 use Rattle.sheet.specs.declared.answer.Answer.the-variants.{Accepted, Refused}
 use Rattle.sheet.specs.declared.sheet.Sheet.{Sheet}
 use Rattle.reader.specs.Read.{read-sheet}
-use Rattle.reader.specs.declared.result.Reading.{Reading}
 use Rattle.report.specs.Line.{line-text}
 
 -- The lines of n places or slots, one after the other.
@@ -37,6 +36,7 @@ abbrev pub sequence-text : Option (List ℕ) → List ℕ
 sequence-text none = []
 sequence-text (some places) = each (length places) (place-text places)
 
+-- A line, unless a test passes.
 abbrev pub unless : Bool → List ℕ → List ℕ
 unless true line = []
 unless false line = line

@@ -7,6 +7,7 @@ pub mod Copied
 pub mod Chosen
 pub mod Places
 pub mod Best
+pub mod Parts
 pub mod Reading
 pub mod Length
 pub mod Place

@@ -2,8 +2,8 @@
 -- sequence is never refused.
 use Prim.Native.Nat.{ℕ, zero, suc, _+_, _-_, _≤_, _<_}
 use mathlib.Core.Path.{_≡_, refl, sym, ap, subst, _∙_}
-use mathlib.Core.Bool.{Bool, true, false, not, _&&_, _||_}
-use mathlib.Core.List.{List, [], _∷_, _++_}
+use mathlib.Core.Bool.{Bool, true, false, not, _&&_}
+use mathlib.Core.List.{List, _++_}
 use mathlib.Core.Option.{some}
 use native.Mathlib.Omega.{arith}
 use borrow.Author.Tests.{leb-true, ltb-true, ltb-false}
@@ -13,7 +13,6 @@ use lib.Seq.{getD-drop, drop-at, ext-getD}
 use Rattle.rules.specs.Slots.{some-below, list-of}
 use Rattle.rules.specs.Decisions as D
 use Rattle.rules.specs.Decisions.{is-open, is-kept, is-dropped}
-use Rattle.rules.specs.Lines.{Lines}
 use Rattle.rules.specs.Sequence.{SequenceOf}
 use Rattle.rules.specs.Relaxation.{ConsistentRelaxation}
 use Rattle.rules.specs.Results.{sequence-of-choice}

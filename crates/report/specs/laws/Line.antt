@@ -1,13 +1,12 @@
 -- The digits of a number: the last one, and those before it.
 use Prim.Native.Nat.{ℕ, zero, suc, _+_, _/_, _%_, _≤_, _<_}
-use mathlib.Core.Path.{_≡_, refl, ap, _∙_}
+use mathlib.Core.Path.{_≡_, refl, ap}
 use mathlib.Core.Bool.{Bool, true, false}
 use mathlib.Core.List.{[], _∷_, _++_}
 use native.Mathlib.Omega.{arith}
 use borrow.Author.Tests.{lt-ltb, le-ltb, ltb-false}
-use lib.ListN.{length, length-append}
 use lib.Dec.{ltb}
-use Rattle.report.specs.Line.{unless-first, digits, decimal, fields-text, line-text}
+use Rattle.report.specs.Line.{unless-first, digits, decimal}
 
 -- Room for more digits than a number has changes nothing.
 digits-enough : (k j n : ℕ) → n < k → n < j → digits k n ≡ digits j n

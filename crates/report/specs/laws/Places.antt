@@ -10,7 +10,7 @@ use lib.ListN.{length, getD, List·getD-eq-default}
 use Rattle.rules.specs.Slots.{slots, keep-if}
 use Rattle.rules.specs.Subscription.{subscription}
 use Rattle.rules.specs.Relaxation.{kept-by-slot}
-use Rattle.rules.specs.Sequence.{precedes, Sequence, done, place, kept-slots, SequenceOf}
+use Rattle.rules.specs.Sequence.{Sequence, done, place, kept-slots, SequenceOf}
 use Rattle.rules.specs.laws.Slots.{slots-out}
 use Rattle.rules.specs.laws.Without.{without-out, without-lt}
 use Rattle.sequence.specs.Next.{number}

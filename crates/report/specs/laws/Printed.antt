@@ -2,7 +2,7 @@
 use Prim.Native.Nat.{ℕ, _+_, _≤_}
 use mathlib.Core.List.{List, [], _∷_}
 use lib.ListN.{length, set}
-use Rattle.report.specs.Line.{decimal, fields-text, line-text}
+use Rattle.report.specs.Line.{decimal, fields-text}
 use Rattle.report.specs.Appended.{Room, Appended}
 use Rattle.report.specs.laws.Appended.{appended-byte, appended-both, room-first, room-second}
 

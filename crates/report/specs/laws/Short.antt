@@ -1,22 +1,19 @@
 -- "At most 1,024 bytes."
 use Prim.Native.Nat.{ℕ, zero, suc, _+_, _*_, _≤_, _<_}
-use mathlib.Core.Path.{_≡_, refl, sym, ap, subst, _∙_}
+use mathlib.Core.Path.{_≡_, refl, sym, ap, subst}
 use mathlib.Core.Bool.{Bool, true, false}
 use mathlib.Core.List.{List, [], _∷_, _++_}
-use mathlib.Core.Option.{some}
 use native.Mathlib.Omega.{arith}
 use lib.ListN.{length, length-append, getD}
-use Rattle.rules.specs.Slots.{pick, sum, over, slots}
+use Rattle.rules.specs.Slots.{pick, sum, over}
 use Rattle.rules.specs.Lines.{Lines}
 use Rattle.rules.specs.Subscription.{subscription}
 use Rattle.rules.specs.Relaxation.{kept-by-slot, value, value-of}
-use Rattle.rules.specs.Sequence.{SequenceOf}
 use Rattle.rules.specs.Results.{sequence-of-choice, answer-at-nought}
 use Rattle.rules.specs.Best as R
 use Rattle.rules.specs.Best.{AnswerTo}
 use Rattle.rules.specs.laws.Best.{answer-at-nought-is}
 use Rattle.rules.specs.laws.Sequence.{sequence-of-choice-is, has-sequence-iff-consistent}
-use Rattle.shape.specs.declared.scan.Place.{Place}
 use Rattle.sheet.specs.Answer.{number-of}
 use Rattle.sheet.specs.Recorded.{Recorded, Subscribed}
 use Rattle.sheet.specs.declared.answer.Refusal.{Refusal}
@@ -27,7 +24,7 @@ use Rattle.sheet.specs.declared.sheet.Sheet.{Sheet}
 use Rattle.sheet.specs.Lines.{lines-of}
 use Rattle.sheet.proofs.LinesLaws.{option-lines, ordering-lines, slot-number, slot-weight, slot-ordering-weight, recorded-proper}
 use Rattle.reader.specs.Read.{read-sheet}
-use Rattle.report.specs.Report.{each, unless, value-text, place-text, sequence-text, ordering-line, dropped-option-text, dropped-ordering-text, dropped-text, answer-text, refusal-text, report-of}
+use Rattle.report.specs.Report.{each, value-text, place-text, sequence-text, ordering-line, dropped-option-text, dropped-ordering-text, answer-text, report-of}
 use Rattle.report.specs.Line.{line-text}
 use Rattle.report.specs.laws.Best.{ordering-line-is}
 use Rattle.report.specs.laws.Length.{value-line-short, place-line-short, option-line-short, ordering-line-short, refusal-line-short, unless-short, nine-each, ten-each, nine-kept-or-dropped}

@@ -6,49 +6,34 @@ use Rattle.report.specs.laws.Answer.{size-is-short}
 use borrow.Author.Needs.{needs}
 use Rattle.wharftoken.proofs.main.Statement.{statement}
 use Rattle.wharftoken.proofs.main.Tie as tie
-use Rattle.wharftoken.proofs.main.Reads as reads
-use Rattle.wharftoken.proofs.main.Lts as lts
-use Rattle.io.proofs.read_full.Reads as read-full-reads
-use Rattle.io.proofs.write_all.Reads as write-all-reads
-use Rattle.report.proofs.report.Reads as report-reads
 
--- src/main.rt:8:30
 slice-aggregate-read-full : tie.Need-slice-aggregate-read-full
 slice-aggregate-read-full c = search needs
 
--- src/main.rt:8:9
 read-full-requires : tie.Need-read-full-requires
 read-full-requires c κs = search needs
 
--- src/main.rt:10:35
 array-share-prefix-sheet : tie.Need-array-share-prefix-sheet
 array-share-prefix-sheet c = search needs
 
--- src/main.rt:10:35
 slice-aggregate-report : tie.Need-slice-aggregate-report
 slice-aggregate-report c = search needs
 
--- src/main.rt:10:48
 slice-aggregate-report-2 : tie.Need-slice-aggregate-report-2
 slice-aggregate-report-2 c = search needs
 
--- src/main.rt:10:9
 report-requires : tie.Need-report-requires
 report-requires c κs = search needs
 
--- src/main.rt:12:22
 array-share-prefix-text : tie.Need-array-share-prefix-text
 array-share-prefix-text c = let h = size-is-short _ _ (c .before .report .ensures .0) in omega arith
 
--- src/main.rt:12:22
 slice-aggregate-write-all : tie.Need-slice-aggregate-write-all
 slice-aggregate-write-all c = sym (length-take-le _ _ (let h = size-is-short _ _ (c .before .before .report .ensures .0) in omega arith))
 
--- src/main.rt:12:5
 write-all-requires : tie.Need-write-all-requires
 write-all-requires c κs = search needs
 
--- src/main.rt:6:1
 returns : tie.Need-returns
 returns c = search needs
 

@@ -24,14 +24,12 @@ abbrev put-number-below : ℕ → In 1 put-number-kinds.ps
 put-number-below t =
     and 1 put-number-kinds.ps (falls 1 put-number-kinds.ps _<_ μ-put-number t) put-number.Pre
 
--- src/line.rt:12:26
 put-number-cast-page : (t : ℕ) → put-number-lts.Need-cast-page (
   put-number-below t,
   put-number.Post,
 ) (put-number-at t) put-number.Post
 put-number-cast-page t c = omega arith
 
--- src/line.rt:12:20
 put-number-add-page :
     (t : ℕ) →
     put-number-lts.Need-add-page
@@ -40,28 +38,24 @@ put-number-add-page :
     put-number.Post
 put-number-add-page t c = omega arith
 
--- src/line.rt:12:9
 put-number-slice-write-page : (t : ℕ) → put-number-lts.Need-slice-write-page (
   put-number-below t,
   put-number.Post,
 ) (put-number-at t) put-number.Post
 put-number-slice-write-page t c = let f = digit-fits _ _ _ (c .before .before .pre .1) (c .if1 .taken) in omega arith
 
--- src/line.rt:13:16
 put-number-add-result : (t : ℕ) → put-number-lts.Need-add-result (
   put-number-below t,
   put-number.Post,
 ) (put-number-at t) put-number.Post
 put-number-add-result t c = let f = digit-fits _ _ _ (c .before .before .pre .1) (c .if1 .taken) in omega arith
 
--- src/line.rt:13:9
 put-number-same-length : (t : ℕ) → put-number-lts.Need-same-length (
   put-number-below t,
   put-number.Post,
 ) (put-number-at t) put-number.Post
 put-number-same-length t c = digit-printed _ _ _ (c .before .before .pre .1) (c .if1 .taken) .size
 
--- src/line.rt:13:9
 put-number-returns :
     (t : ℕ) →
     put-number-lts.Need-returns
@@ -70,49 +64,48 @@ put-number-returns :
     put-number.Post
 put-number-returns t c = digit-printed _ _ _ (c .before .before .pre .1) (c .if1 .taken)
 
--- src/line.rt:15:9
 put-number-put-number-requires : (t : ℕ) → put-number-lts.Need-put-number-requires (
   put-number-below t,
   put-number.Post,
 ) (put-number-at t) put-number.Post
-put-number-put-number-requires t c κs = (subst (λ (j : ℕ). c .before .before .before .args .n / 10 < j) (c .before .before .before .pre .0) (omega arith), tenth-fits _ _ _ (c .before .before .before .pre .1) (c .before .if1 .left))
+put-number-put-number-requires t c κs =
+    let start = c .before .before .before in
+    (subst (λ (j : ℕ). start .args .n / 10 < j) (start .pre .0) (omega arith), tenth-fits _ _ _ (start .pre .1) (c .before .if1 .left))
 
--- src/line.rt:16:21
 put-number-cast-page-2 : (t : ℕ) → put-number-lts.Need-cast-page-2 (
   put-number-below t,
   put-number.Post,
 ) (put-number-at t) put-number.Post
 put-number-cast-page-2 t c = search needs
 
--- src/line.rt:16:15
 put-number-add-page-2 : (t : ℕ) → put-number-lts.Need-add-page-2 (
   put-number-below t,
   put-number.Post,
 ) (put-number-at t) put-number.Post
 put-number-add-page-2 t c = search needs
 
--- src/line.rt:16:5
 put-number-slice-write-page-2 : (t : ℕ) → put-number-lts.Need-slice-write-page-2 (
   put-number-below t,
   put-number.Post,
 ) (put-number-at t) put-number.Post
-put-number-slice-write-page-2 t c = let f = last-fits _ _ _ (c .before .before .before .before .before .before .pre .1) (c .before .before .before .before .if1 .left) _ _ (c .before .before .put-number .ensures) in omega arith
+put-number-slice-write-page-2 t c =
+    let f = last-fits _ _ _ (c .before .before .before .before .before .before .pre .1) (c .before .before .before .before .if1 .left) _ _ (c .before .before .put-number .ensures) in
+    omega arith
 
--- src/line.rt:17:5
 put-number-add-result-2 : (t : ℕ) → put-number-lts.Need-add-result-2 (
   put-number-below t,
   put-number.Post,
 ) (put-number-at t) put-number.Post
-put-number-add-result-2 t c = let f = last-fits _ _ _ (c .before .before .before .before .before .before .pre .1) (c .before .before .before .before .if1 .left) _ _ (c .before .before .put-number .ensures) in omega arith
+put-number-add-result-2 t c =
+    let f = last-fits _ _ _ (c .before .before .before .before .before .before .pre .1) (c .before .before .before .before .if1 .left) _ _ (c .before .before .put-number .ensures) in
+    omega arith
 
--- src/line.rt:7:1
 put-number-same-length-2 : (t : ℕ) → put-number-lts.Need-same-length-2 (
   put-number-below t,
   put-number.Post,
 ) (put-number-at t) put-number.Post
 put-number-same-length-2 t c = last-printed _ _ _ (c .before .before .before .before .before .before .pre .1) (c .before .before .before .before .if1 .left) _ _ (c .before .before .put-number .ensures) .size
 
--- src/line.rt:7:1
 put-number-returns-2 : (t : ℕ) → put-number-lts.Need-returns-2 (
   put-number-below t,
   put-number.Post,

@@ -1,32 +1,22 @@
 -- A space, and then the number.
 use native.Mathlib.Omega.{arith}
-use borrow.Author.Needs.{needs}
 use Rattle.report.specs.Line.{decimal}
 use Rattle.report.specs.laws.Printed.{byte-fits, byte-leaves, byte-printed}
-use borrow.Author.Needs.{needs}
 use Rattle.report.proofs.line.put_field.Statement.{statement}
 use Rattle.report.proofs.line.put_field.Tie as tie
-use Rattle.report.proofs.line.put_field.Reads as reads
-use Rattle.report.proofs.line.put_field.Lts as lts
-use Rattle.report.proofs.line.put_number.Reads as put-number-reads
 
--- src/line.rt:25:5
 slice-write-page : tie.Need-slice-write-page
 slice-write-page c = let f = byte-fits _ _ 32 (decimal (c .before .args .n)) (c .before .pre) in omega arith
 
--- src/line.rt:26:22
 add-put-number : tie.Need-add-put-number
 add-put-number c = let f = byte-fits _ _ 32 (decimal (c .before .before .args .n)) (c .before .before .pre) in omega arith
 
--- src/line.rt:26:5
 put-number-requires : tie.Need-put-number-requires
 put-number-requires c κs = byte-leaves _ _ 32 (decimal (c .before .before .args .n)) (c .before .before .pre)
 
--- src/line.rt:21:1
 same-length : tie.Need-same-length
 same-length c = byte-printed _ _ 32 (decimal (c .before .before .before .before .before .args .n)) (c .before .before .before .before .before .pre) (c .before .before .put-number .ensures) .size
 
--- src/line.rt:21:1
 returns : tie.Need-returns
 returns c = byte-printed _ _ 32 (decimal (c .before .before .before .before .before .args .n)) (c .before .before .before .before .before .pre) (c .before .before .put-number .ensures)
 

@@ -1,15 +1,11 @@
 -- Turn i prints the line of option i, if it is dropped, after those of the options before it.
 use Prim.Native.Nat.{_-_, _≤_}
 use native.Mathlib.Omega.{arith}
-use borrow.Author.Needs.{needs}
 use Rattle.report.specs.Report.{each}
 use Rattle.report.specs.Appended.{Appended, option-line}
 use Rattle.report.specs.laws.Each.{printed-none, printed-one-more, room-for-one-more, printed-all}
 use Rattle.report.proofs.lists.put_options.Statement.{statement}
 use Rattle.report.proofs.lists.put_options.Tie as tie
-use Rattle.report.proofs.lists.put_options.Reads as reads
-use Rattle.report.proofs.lists.put_options.Lts as lts
-use Rattle.report.proofs.lists.put_option.Reads as put-option-reads
 
 abbrev Inv-loop : tie.InvT-loop
 Inv-loop page₀ at numbers n options i₀ p₀ page i p = (i ≤ n) × Appended page₀ page at p (each i (option-line options numbers))
@@ -17,39 +13,30 @@ Inv-loop page₀ at numbers n options i₀ p₀ page i p = (i ≤ n) × Appended
 abbrev μ-loop : tie.MeasureT-loop
 μ-loop page₀ at numbers n options i₀ p₀ page i p = n - i
 
--- src/lists.rt:74:5
 loop-holds : tie.Need-loop-holds Inv-loop μ-loop
 loop-holds c = (omega arith, printed-none _ _ _)
 
--- src/lists.rt:75:22
 array-copy-out-choice : tie.Need-array-copy-out-choice Inv-loop μ-loop
 array-copy-out-choice c = omega arith
 
--- src/lists.rt:76:41
 shared-slice-read-put-option : tie.Need-shared-slice-read-put-option Inv-loop μ-loop
 shared-slice-read-put-option c = omega arith
 
--- src/lists.rt:76:9
 put-option-requires : tie.Need-put-option-requires Inv-loop μ-loop
 put-option-requires c κs = room-for-one-more _ _ _ (c .before .before .before .loop-test .taken) (c .before .before .before .before .before .before .before .pre .1) (c .before .before .before .before .loop .inv .1)
 
--- src/lists.rt:77:9
 add-i : tie.Need-add-i Inv-loop μ-loop
 add-i c = omega arith
 
--- src/lists.rt:74:5
 loop-less : tie.Need-loop-less Inv-loop μ-loop
 loop-less c = omega arith
 
--- src/lists.rt:74:5
 loop-again : tie.Need-loop-again Inv-loop μ-loop
 loop-again c = (omega arith, printed-one-more _ (c .before .before .before .before .before .before .before .loop .inv .1) (c .before .before .put-option .ensures))
 
--- src/lists.rt:67:1
 same-length : tie.Need-same-length Inv-loop μ-loop
 same-length c = c .before .loop .inv .1 .size
 
--- src/lists.rt:67:1
 returns : tie.Need-returns Inv-loop μ-loop
 returns c = printed-all _ _ _ (c .before .loop .inv .0) (c .loop-test .left) (c .before .loop .inv .1)
 

@@ -1,15 +1,11 @@
 -- Turn u prints the line of ordering u, if it is dropped, after those of the orderings before it.
 use Prim.Native.Nat.{_-_, _≤_}
 use native.Mathlib.Omega.{arith}
-use borrow.Author.Needs.{needs}
 use Rattle.report.specs.Report.{each}
 use Rattle.report.specs.Appended.{Appended, ordering-line}
 use Rattle.report.specs.laws.Each.{printed-none, printed-one-more, room-for-one-more, printed-all}
 use Rattle.report.proofs.lists.put_orderings.Statement.{statement}
 use Rattle.report.proofs.lists.put_orderings.Tie as tie
-use Rattle.report.proofs.lists.put_orderings.Reads as reads
-use Rattle.report.proofs.lists.put_orderings.Lts as lts
-use Rattle.report.proofs.lists.put_ordering.Reads as put-ordering-reads
 
 abbrev Inv-loop : tie.InvT-loop
 Inv-loop page₀ at firsts seconds m orderings u₀ p₀ page u p = (u ≤ m) × Appended page₀ page at p (each u (ordering-line orderings firsts seconds))
@@ -17,43 +13,33 @@ Inv-loop page₀ at firsts seconds m orderings u₀ p₀ page u p = (u ≤ m) ×
 abbrev μ-loop : tie.MeasureT-loop
 μ-loop page₀ at firsts seconds m orderings u₀ p₀ page u p = m - u
 
--- src/lists.rt:97:5
 loop-holds : tie.Need-loop-holds Inv-loop μ-loop
 loop-holds c = (omega arith, printed-none _ _ _)
 
--- src/lists.rt:98:22
 array-copy-out-choice : tie.Need-array-copy-out-choice Inv-loop μ-loop
 array-copy-out-choice c = omega arith
 
--- src/lists.rt:99:43
 shared-slice-read-put-ordering : tie.Need-shared-slice-read-put-ordering Inv-loop μ-loop
 shared-slice-read-put-ordering c = omega arith
 
--- src/lists.rt:99:54
 shared-slice-read-put-ordering-2 : tie.Need-shared-slice-read-put-ordering-2 Inv-loop μ-loop
 shared-slice-read-put-ordering-2 c = omega arith
 
--- src/lists.rt:99:9
 put-ordering-requires : tie.Need-put-ordering-requires Inv-loop μ-loop
 put-ordering-requires c κs = room-for-one-more _ _ _ (c .before .before .before .before .loop-test .taken) (c .before .before .before .before .before .before .before .before .before .pre .1) (c .before .before .before .before .before .loop .inv .1)
 
--- src/lists.rt:100:9
 add-u : tie.Need-add-u Inv-loop μ-loop
 add-u c = omega arith
 
--- src/lists.rt:97:5
 loop-less : tie.Need-loop-less Inv-loop μ-loop
 loop-less c = omega arith
 
--- src/lists.rt:97:5
 loop-again : tie.Need-loop-again Inv-loop μ-loop
 loop-again c = (omega arith, printed-one-more _ (c .before .before .before .before .before .before .before .before .loop .inv .1) (c .before .before .put-ordering .ensures))
 
--- src/lists.rt:83:1
 same-length : tie.Need-same-length Inv-loop μ-loop
 same-length c = c .before .loop .inv .1 .size
 
--- src/lists.rt:83:1
 returns : tie.Need-returns Inv-loop μ-loop
 returns c = printed-all _ _ _ (c .before .loop .inv .0) (c .loop-test .left) (c .before .loop .inv .1)
 

@@ -1,15 +1,11 @@
 -- Turn i prints the line of place i + 1, if an option stands there, after those of the places before it.
 use Prim.Native.Nat.{_-_, _≤_}
 use native.Mathlib.Omega.{arith}
-use borrow.Author.Needs.{needs}
 use Rattle.report.specs.Report.{each}
 use Rattle.report.specs.Appended.{Appended, place-line}
 use Rattle.report.specs.laws.Each.{printed-none, printed-one-more, room-for-one-more, printed-all}
 use Rattle.report.proofs.lists.put_places.Statement.{statement}
 use Rattle.report.proofs.lists.put_places.Tie as tie
-use Rattle.report.proofs.lists.put_places.Reads as reads
-use Rattle.report.proofs.lists.put_places.Lts as lts
-use Rattle.report.proofs.lists.put_place.Reads as put-place-reads
 
 abbrev Inv-loop : tie.InvT-loop
 Inv-loop page₀ at places i₀ p₀ page i p = (i ≤ 32) × Appended page₀ page at p (each i (place-line places))
@@ -17,39 +13,30 @@ Inv-loop page₀ at places i₀ p₀ page i p = (i ≤ 32) × Appended page₀ p
 abbrev μ-loop : tie.MeasureT-loop
 μ-loop page₀ at places i₀ p₀ page i p = 32 - i
 
--- src/lists.rt:58:5
 loop-holds : tie.Need-loop-holds Inv-loop μ-loop
 loop-holds c = (omega arith, printed-none _ _ _)
 
--- src/lists.rt:59:22
 array-copy-out-option : tie.Need-array-copy-out-option Inv-loop μ-loop
 array-copy-out-option c = omega arith
 
--- src/lists.rt:60:32
 add-put-place : tie.Need-add-put-place Inv-loop μ-loop
 add-put-place c = omega arith
 
--- src/lists.rt:60:9
 put-place-requires : tie.Need-put-place-requires Inv-loop μ-loop
 put-place-requires c κs = room-for-one-more _ _ _ (c .before .before .loop-test .taken) (c .before .before .before .before .before .pre) (c .before .before .before .loop .inv .1)
 
--- src/lists.rt:61:9
 add-i : tie.Need-add-i Inv-loop μ-loop
 add-i c = omega arith
 
--- src/lists.rt:58:5
 loop-less : tie.Need-loop-less Inv-loop μ-loop
 loop-less c = omega arith
 
--- src/lists.rt:58:5
 loop-again : tie.Need-loop-again Inv-loop μ-loop
 loop-again c = (omega arith, printed-one-more _ (c .before .before .before .before .before .before .loop .inv .1) (c .before .before .put-place .ensures))
 
--- src/lists.rt:52:1
 same-length : tie.Need-same-length Inv-loop μ-loop
 same-length c = c .before .loop .inv .1 .size
 
--- src/lists.rt:52:1
 returns : tie.Need-returns Inv-loop μ-loop
 returns c = printed-all _ _ _ (c .before .loop .inv .0) (c .loop-test .left) (c .before .loop .inv .1)
 

@@ -3,48 +3,33 @@ use mathlib.Core.Path.{sym}
 use borrow.Author.Needs.{needs}
 use Rattle.report.specs.laws.Appended.{appended-same, room-same}
 use Rattle.report.specs.laws.Reading.{report-of-accepted, report-of-refused, accepted-is-recorded}
-use borrow.Author.Needs.{needs}
 use Rattle.report.proofs.page.put_report.Statement.{statement}
 use Rattle.report.proofs.page.put_report.Tie as tie
-use Rattle.report.proofs.page.put_report.Reads as reads
-use Rattle.report.proofs.page.put_report.Lts as lts
-use Rattle.reader.proofs.read.Reads as read-reads
-use Rattle.report.proofs.page.put_best.Reads as put-best-reads
-use Rattle.report.proofs.page.put_refusal.Reads as put-refusal-reads
 
--- src/page.rt:78:9
 read-requires : tie.Need-read-requires
 read-requires c κs = search needs
 
--- src/page.rt:81:38
 enum-told : tie.Need-enum-told
 enum-told c = search needs
 
--- src/page.rt:81:29
 put-best-requires : tie.Need-put-best-requires
 put-best-requires c κs = (accepted-is-recorded _ _ (c .before .before .before .read .ensures) (c .before .enum-told .given .1), room-same (report-of-accepted _ _ (c .before .before .before .read .ensures) (c .before .enum-told .given .1)) (c .before .before .before .before .before .before .pre))
 
--- src/page.rt:82:27
 enum-known-answer : tie.Need-enum-known-answer
 enum-known-answer c = search needs
 
--- src/page.rt:82:43
 put-refusal-requires : tie.Need-put-refusal-requires
 put-refusal-requires c κs = room-same (report-of-refused _ _ (c .before .before .before .before .read .ensures) (c .before .before .answer .given .1)) (c .before .before .before .before .before .before .before .pre)
 
--- src/page.rt:74:1
 same-length : tie.Need-same-length
 same-length c = search needs
 
--- src/page.rt:74:1
 returns : tie.Need-returns
 returns c = appended-same (sym (report-of-accepted _ _ (c .before .before .before .before .before .before .read .ensures) (c .before .before .before .before .enum-told .given .1))) (c .before .before .put-best .ensures)
 
--- src/page.rt:74:1
 same-length-2 : tie.Need-same-length-2
 same-length-2 c = search needs
 
--- src/page.rt:74:1
 returns-2 : tie.Need-returns-2
 returns-2 c = appended-same (sym (report-of-refused _ _ (c .before .before .before .before .before .before .before .read .ensures) (c .before .before .before .before .before .answer .given .1))) (c .before .before .put-refusal .ensures)
 

@@ -7,8 +7,6 @@ use lib.ListN.{length, take, drop}
 use Rattle.report.specs.laws.Copied.{copied-next, copied-all}
 use Rattle.report.proofs.reporting.copy.Statement.{statement}
 use Rattle.report.proofs.reporting.copy.Tie as tie
-use Rattle.report.proofs.reporting.copy.Reads as reads
-use Rattle.report.proofs.reporting.copy.Lts as lts
 
 abbrev Inv-loop : tie.InvT-loop
 Inv-loop page out₀ n i₀ out i = (i ≤ n) × ((length out ≡ length out₀) × (out ≡ take i page ++ drop i out₀))
@@ -16,35 +14,27 @@ Inv-loop page out₀ n i₀ out i = (i ≤ n) × ((length out ≡ length out₀)
 abbrev μ-loop : tie.MeasureT-loop
 μ-loop page out₀ n i₀ out i = n - i
 
--- src/reporting.rt:36:5
 loop-holds : tie.Need-loop-holds Inv-loop μ-loop
 loop-holds c = (omega arith, (refl, refl))
 
--- src/reporting.rt:37:18
 shared-slice-read-out : tie.Need-shared-slice-read-out Inv-loop μ-loop
 shared-slice-read-out c = omega arith
 
--- src/reporting.rt:37:9
 slice-write-out : tie.Need-slice-write-out Inv-loop μ-loop
 slice-write-out c = omega arith
 
--- src/reporting.rt:38:9
 add-i : tie.Need-add-i Inv-loop μ-loop
 add-i c = omega arith
 
--- src/reporting.rt:36:5
 loop-less : tie.Need-loop-less Inv-loop μ-loop
 loop-less c = omega arith
 
--- src/reporting.rt:36:5
 loop-again : tie.Need-loop-again Inv-loop μ-loop
 loop-again c = copied-next _ _ _ _ _ (c .before .loop-test .taken) (c .before .before .before .pre .0) (c .before .before .before .pre .1) (c .before .before .loop .inv)
 
--- src/reporting.rt:31:1
 same-length : tie.Need-same-length Inv-loop μ-loop
 same-length c = c .before .loop .inv .1 .0
 
--- src/reporting.rt:31:1
 returns : tie.Need-returns Inv-loop μ-loop
 returns c = copied-all _ _ _ _ _ (c .before .loop .inv) (c .loop-test .left)
 

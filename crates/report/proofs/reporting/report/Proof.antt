@@ -2,44 +2,30 @@
 use mathlib.Core.Path.{refl}
 use borrow.Author.Needs.{needs}
 use Rattle.report.specs.laws.Answer.{room-on-page, printed-on-page, out-too-short, out-long-enough}
-use borrow.Author.Needs.{needs}
 use Rattle.report.proofs.reporting.report.Statement.{statement}
 use Rattle.report.proofs.reporting.report.Tie as tie
-use Rattle.report.proofs.reporting.report.Reads as reads
-use Rattle.report.proofs.reporting.report.Lts as lts
-use Rattle.report.proofs.page.put_report.Reads as put-report-reads
-use Rattle.report.proofs.reporting.copy.Reads as copy-reads
-use Rattle.report.proofs.reporting.too_short.Reads as too-short-reads
 
--- src/reporting.rt:48:33
 slice-aggregate-put-report : tie.Need-slice-aggregate-put-report
 slice-aggregate-put-report c = search needs
 
--- src/reporting.rt:48:9
 put-report-requires : tie.Need-put-report-requires
 put-report-requires c κs = room-on-page _ _ refl
 
--- src/reporting.rt:50:9
 too-short-requires : tie.Need-too-short-requires
 too-short-requires c κs = search needs
 
--- src/reporting.rt:50:9
 returns : tie.Need-returns
 returns c = out-too-short _ (c .before .before .before .put-report .ensures) _ (c .before .if1 .taken) (c .too-short .ensures)
 
--- src/reporting.rt:52:10
 slice-aggregate-copy : tie.Need-slice-aggregate-copy
 slice-aggregate-copy c = search needs
 
--- src/reporting.rt:52:5
 copy-requires : tie.Need-copy-requires
 copy-requires c κs = (printed-on-page _ (c .before .before .before .before .put-report .ensures) (room-on-page _ _ refl), c .before .before .if1 .left)
 
--- src/reporting.rt:44:1
 same-length : tie.Need-same-length
 same-length c = search needs
 
--- src/reporting.rt:44:1
 returns-2 : tie.Need-returns-2
 returns-2 c = out-long-enough _ (c .before .before .before .before .before .before .before .put-report .ensures) _ (c .before .before .before .before .before .if1 .left) (c .before .before .copy .ensures)
 

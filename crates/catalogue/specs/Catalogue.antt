@@ -5,10 +5,8 @@ use mathlib.Core.List.{List}
 use Prim.Native.Nat.{ℕ, _<_}
 use lib.ListN.{getD}
 use lib.Dec.{eqb}
-use Rattle.rules.specs.Slots.{slots, list-of}
+use Rattle.rules.specs.Slots.{list-of}
 use Rattle.rules.specs.Lines.{CatalogueLine, catalogue-puts-before, puts-before}
-use Rattle.rules.specs.Limits.{A}
-use Rattle.rows.specs.Bits.{with}
 use Rattle.rows.specs.Sets.{cell}
 use Rattle.rules.specs.Lines.{C, X}
 

@@ -6,9 +6,9 @@ use Prim.Native.Nat.{ℕ}
 use lib.ListN.{getD}
 use lib.Dec.{eqb}
 use Rattle.rules.specs.Slots.{some-below}
-use Rattle.rules.specs.Subscription.{Subscription, subscription}
+use Rattle.rules.specs.Subscription.{Subscription}
 use Rattle.rules.specs.Decisions.{DecidedBySlot}
-use Rattle.rules.specs.KnownBefore.{touches, ordering-kept, option-kept, known-before}
+use Rattle.rules.specs.KnownBefore.{ordering-kept, option-kept, known-before}
 use Rattle.rules.specs.Forced.{option-dropped, ordering-dropped, contradiction}
 use Rattle.rows.specs.Bits.{has}
 use Rattle.rows.specs.Sets.{Holds, Table}

@@ -7,7 +7,7 @@ use lib.ListN.{length, getD}
 use lib.Dec.{eqb, ltb}
 use Rattle.rules.specs.Slots.{some-below, slots}
 use Rattle.rules.specs.Joined.{through}
-use Rattle.rows.specs.Bits.{has, with, joined}
+use Rattle.rows.specs.Bits.{has}
 use Rattle.rows.specs.Sets.{cell}
 
 -- Few enough options and orderings, and each ordering names two options of the sheet by slot.

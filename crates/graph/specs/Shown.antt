@@ -3,9 +3,7 @@ use mathlib.Core.Path.{_≡_}
 use mathlib.Core.List.{List}
 use Prim.Native.Nat.{ℕ, _<_}
 use lib.ListN.{getD}
-use Rattle.rules.specs.Subscription.{Subscription, subscription}
-use Rattle.rules.specs.Limits.{A}
-use Rattle.rows.specs.Bits.{with}
+use Rattle.rules.specs.Subscription.{Subscription}
 use Rattle.rows.specs.Sets.{cell}
 
 -- A subscription with n options and m orderings.

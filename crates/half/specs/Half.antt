@@ -3,10 +3,10 @@ use mathlib.Core.Path.{_≡_}
 use mathlib.Core.Bool.{Bool, not, _&&_, _||_}
 use mathlib.Core.List.{List}
 use Prim.Native.Nat.{ℕ, _+_, _-_, _≤_}
-use lib.ListN.{getD, set}
+use lib.ListN.{getD}
 use lib.Dec.{eqb}
 use Rattle.rules.specs.Slots.{sum, over}
-use Rattle.rows.specs.Bits.{has, with}
+use Rattle.rows.specs.Bits.{has}
 use Rattle.rows.specs.Sets.{Holds}
 use Rattle.half.specs.Weights.{weight-in}
 use Rattle.forced.specs.declared.forcing.Forced.{Forced}

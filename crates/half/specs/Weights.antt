@@ -3,7 +3,7 @@ use mathlib.Core.Path.{_≡_}
 use mathlib.Core.List.{List}
 use Prim.Native.Nat.{ℕ, _≤_, _<_}
 use lib.ListN.{length, getD}
-use Rattle.rules.specs.Subscription.{Subscription, subscription}
+use Rattle.rules.specs.Subscription.{Subscription}
 
 -- Few enough options and orderings, and a weight for each.
 pub record HasWeights (n m : ℕ) (ws bs : List ℕ) : Type 0 where

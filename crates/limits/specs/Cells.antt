@@ -5,7 +5,6 @@ use Prim.Native.Nat.{ℕ, _+_, _-_}
 use lib.ListN.{getD}
 use lib.Dec.{eqb}
 use Rattle.rules.specs.Slots.{over}
-use Rattle.rules.specs.laws.Tests.{test}
 use Rattle.rows.specs.Bits.{has}
 use Rattle.half.specs.Weights.{weight-in}
 use Rattle.half.specs.Half.{clashes-in, weight-of-sets}

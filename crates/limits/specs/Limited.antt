@@ -2,13 +2,13 @@
 use mathlib.Core.Path.{_≡_}
 use mathlib.Core.Bool.{true, false, cond}
 use mathlib.Core.List.{List}
-use Prim.Native.Nat.{ℕ, zero}
+use Prim.Native.Nat.{ℕ}
 use lib.ListN.{replicate}
-use Rattle.rules.specs.Subscription.{Subscription, subscription}
+use Rattle.rules.specs.Subscription.{Subscription}
 use Rattle.rules.specs.Decisions.{DecidedBySlot}
 use Rattle.rules.specs.KnownBefore.{ordering-kept, option-kept}
 use Rattle.rules.specs.Forced.{option-dropped, ordering-dropped, contradiction, decision-of}
-use Rattle.rules.specs.Limits.{A, whole-lower, whole-upper}
+use Rattle.rules.specs.Limits.{whole-lower, whole-upper}
 use Rattle.given.specs.Given.{undecided, Gives, choice-of}
 use Rattle.graph.specs.Shown.{counted, Shows}
 use Rattle.rules.specs.Results.{option-limit, ordering-limit}

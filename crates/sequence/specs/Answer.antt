@@ -3,10 +3,8 @@ use mathlib.Core.Bool.{_||_, cond}
 use mathlib.Core.List.{List, []}
 use mathlib.Core.Option.{Option, none, some}
 use Prim.Native.Nat.{ℕ}
-use Rattle.rules.specs.Limits.{A}
 use Rattle.given.specs.Given.{decided-past, open-within, decision-list}
 use Rattle.rules.specs.Results.{sequence-of}
-use Rattle.sequence.specs.Next.{number}
 use Rattle.sequence.specs.Padded.{places-of}
 use Rattle.sheet.specs.Lines.{lines-of}
 use Rattle.sheet.specs.IsRecorded.{is-recorded}

@@ -6,8 +6,7 @@ use Prim.Native.Nat.{ℕ, _+_}
 use lib.ListN.{getD, set}
 use lib.Dec.{eqb, ltb}
 use Rattle.rules.specs.Slots.{slots}
-use Rattle.rules.specs.Limits.{A}
-use Rattle.rows.specs.Bits.{has, with}
+use Rattle.rows.specs.Bits.{has}
 use Rattle.rows.specs.Sets.{cell}
 use Rattle.rules.specs.Results.{placed, smallest-ready}
 use Rattle.rules.specs.Sequence.{ready}

@@ -5,7 +5,7 @@ use mathlib.Core.List.{List, [], map}
 use Prim.Native.Nat.{ℕ, _<_}
 use lib.ListN.{getD}
 use Rattle.rules.specs.Slots.{some-below}
-use Rattle.rules.specs.Subscription.{Subscription, subscription}
+use Rattle.rules.specs.Subscription.{Subscription}
 use Rattle.rows.specs.Sets.{Holds}
 use Rattle.graph.specs.Shown.{counted, Shows}
 use Rattle.rules.specs.Results.{placed, acyclic, lacks-an-option}

@@ -4,7 +4,6 @@ use mathlib.Core.List.{List}
 use Prim.Native.Nat.{ℕ, _≤_, _<_}
 use lib.ListN.{length, getD}
 use lib.Dec.{eqb}
-use Rattle.rules.specs.Slots.{slots}
 
 -- "No option subscribed twice": the first n numbers differ.
 pub record NumbersDiffer (n : ℕ) (numbers : List ℕ) : Type 0 where

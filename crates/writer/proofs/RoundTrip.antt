@@ -1,5 +1,5 @@
 -- Reading and writing are inverse to each other, 12 is given exactly to a record that no accepted sheet gives, and the writer's promise allows one result.
-use Prim.Native.Nat.{ℕ, zero, _+_, _≤_}
+use Prim.Native.Nat.{ℕ, _+_, _≤_}
 use mathlib.Core.Path.{_≡_, refl, sym, ap, _∙_}
 use mathlib.Core.Bool.{Bool, true, false, cond}
 use mathlib.Core.List.{List, _++_, append-nil}

@@ -13,8 +13,7 @@ use Rattle.rules.specs.Subscription.{Subscription}
 use Rattle.rules.specs.Decisions.{is-kept, is-dropped, DecidedBySlot}
 use Rattle.rules.specs.KnownBefore.{puts-first, touches, ordering-kept, option-kept, known-from-the-start, known-before}
 use Rattle.rules.specs.Forced.{option-dropped, ordering-dropped, contradiction}
-use Rattle.rules.specs.Limits.{A}
-use Rattle.rules.specs.laws.Tests.{and-l, and-r, test}
+use Rattle.rules.specs.laws.Tests.{and-l, and-r}
 use Rattle.rules.specs.laws.Slots.{some-out, slots-in, slots-out}
 use Rattle.rules.specs.laws.Joined.{through-join}
 use Rattle.rows.specs.Bits.{has}
@@ -26,7 +25,6 @@ use Rattle.given.specs.Given.{Gives}
 use Rattle.graph.specs.Shown.{counted, Shows}
 use Rattle.forced.specs.Forced.{kept-touching, KeptWithEnds, ForcedAs}
 use Rattle.given.specs.declared.sets.Given.{Given}
-use Rattle.forced.specs.declared.forcing.Forced.{Forced}
 
 -- A test that another implies adds nothing.
 or-implied : (a b : Bool) → (T b → T a) → (a || b) ≡ a

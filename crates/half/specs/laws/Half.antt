@@ -13,7 +13,6 @@ use Rattle.half.specs.Weights.{weight-in}
 use Rattle.half.specs.Half.{whole-weight, weight-of-sets, HalfDecidedAs}
 use Rattle.half.specs.laws.Weights.{over-apart}
 use Rattle.forced.specs.declared.forcing.Forced.{Forced}
-use Rattle.half.specs.declared.opened.Half.{Half}
 
 -- What is dropped is not open.
 open-apart : (a b c : Bool) → c ≡ not (a || b) → T b → T c → ⊥

@@ -4,7 +4,6 @@ use mathlib.Core.Bool.{Bool, true, false}
 use Prim.Native.Nat.{ℕ, zero, suc, _+_, _≤_, _<_}
 use native.Mathlib.Omega.{arith}
 use native.Mathlib.Numerals.{add-one}
-use lib.ListN.{take}
 use lib.Dec.{T}
 use Rattle.rules.specs.Slots.{sum, pick, over}
 use Rattle.rules.specs.laws.Sums.{sum-cong, sum-mono}

@@ -17,7 +17,6 @@ use Rattle.half.specs.Half.{clashes-in, weight-of-sets}
 use Rattle.limits.specs.Cells.{no-limit, open-option-in, open-ordering-in, weight-with-orderings-in, option-limit-in, ordering-limit-in}
 use Rattle.half.specs.laws.Weights.{over-same-tests}
 use Rattle.limits.specs.laws.Charges.{same-weight-with-orderings}
-use Rattle.limits.specs.declared.cells.Limit.{Limit}
 use Rattle.half.specs.declared.opened.Half.{Half}
 
 module _ (h : Half) (n m : ℕ) (firsts seconds ws bs : List ℕ) where

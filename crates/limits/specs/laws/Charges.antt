@@ -14,7 +14,6 @@ use Rattle.half.specs.Weights.{weight-in}
 use Rattle.half.specs.Half.{OpenFits}
 use Rattle.limits.specs.Cells.{open-option-in, open-ordering-in, weight-with-orderings-in}
 use Rattle.half.specs.laws.Weights.{over-same-tests, over-mono}
-use Rattle.limits.specs.declared.cells.Limit.{Limit}
 use Rattle.half.specs.declared.opened.Half.{Half}
 
 module _ (h : Half) (n m : ℕ) (firsts seconds ws bs : List ℕ) where

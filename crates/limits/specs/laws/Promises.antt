@@ -13,8 +13,7 @@ use Rattle.rules.specs.Subscription.{items, Proper}
 use Rattle.rules.specs.Decisions.{is-open}
 use Rattle.rules.specs.Forced.{contradiction, forced}
 use Rattle.rules.specs.Limits.{A, B}
-use Rattle.rows.specs.Bits.{with}
-use Rattle.given.specs.Given.{decided, undecided, decision, decided-past, choice-of, decision-list}
+use Rattle.given.specs.Given.{decided, undecided, decided-past, choice-of, decision-list}
 use Rattle.rules.specs.Results.{limits-of}
 use Rattle.limits.specs.Cells.{no-limit}
 use Rattle.limits.specs.Limited.{shown-limit}

@@ -1,4 +1,4 @@
-use Rattle.rows.specs.Bits.{joined, joined-if}
+use Rattle.rows.specs.Bits.{joined-if}
 use borrow.Author.Needs.{needs}
 use Rattle.rows.proofs.join_if.Statement.{statement}
 use Rattle.rows.proofs.join_if.Tie as tie

@@ -1,4 +1,4 @@
-use Rattle.rows.specs.Bits.{with, with-if}
+use Rattle.rows.specs.Bits.{with-if}
 use borrow.Author.Needs.{needs}
 use Rattle.rows.proofs.put64_if.Statement.{statement}
 use Rattle.rows.proofs.put64_if.Tie as tie

@@ -1,11 +1,11 @@
 -- What rows hold after each operation: callers go by these and never open a row.
-use Prim.Native.Nat.{ℕ, zero, suc, _+_, _*_, _/_, _%_, _^_, _≤_, _<_, max, min, _-_}
+use Prim.Native.Nat.{ℕ, zero, suc, _+_, _/_, _%_, _^_, _<_, max, min, _-_}
 use mathlib.Core.Bool.{Bool, true, false, not, _&&_, _||_}
 use mathlib.Core.Path.{_≡_, refl, sym, ap, _∙_}
 use native.Mathlib.Omega.{arith}
-use native.Mathlib.Nat.{mod-lt, add-mul-mod-self-right, zero-div, div-eq-of-lt, one-mul, mul-one, pow-zero, pow-suc, mul-mod-left, pow-succ', div-self, add-comm}
-use lib.Dec.{eqb, ltb}
-use mathlib.Core.Logic.{_⊎_, inl, inr, ⊎-elim}
+use native.Mathlib.Nat.{mod-lt, zero-div, div-eq-of-lt, pow-suc, mul-mod-left, div-self, add-comm}
+use lib.Dec.{eqb}
+use mathlib.Core.Logic.{_⊎_, inl, inr}
 use lib.Bits.{bitOr, bitAnd, bitXor, differ, or-shr, or-step, and-shr, and-step, xor-shr, xor-step}
 use lib.Pow.{pow-lt, pow-add, shl-shr, pow-pos}
 use borrow.Author.Tests.{eq-eqb, ne-eqb, eqb-true}

@@ -1,17 +1,15 @@
 -- Sets that are apart stay so: forced decisions without a contradiction, and one open item more.
-use mathlib.Core.Path.{_≡_, refl, sym, subst, _∙_}
-use mathlib.Core.Bool.{Bool, true, false, not, _&&_, _||_}
+use mathlib.Core.Path.{_≡_, sym, subst, _∙_}
+use mathlib.Core.Bool.{Bool, true, false, not, _&&_}
 use mathlib.Core.Logic.{_⊎_, inl, inr}
 use mathlib.Core.List.{List}
 use Prim.Native.Nat.{ℕ, _<_}
-use native.Mathlib.Omega.{arith}
-use lib.ListN.{length}
 use lib.Dec.{T, T-not, eqb, eqb→eq, ltb, ltb→lt}
 use Rattle.rules.specs.Slots.{some-below}
 use Rattle.rules.specs.Subscription.{Subscription, subscription}
 use Rattle.rules.specs.Decisions.{DecidedBySlot, is-open, decided-by-slot}
 use Rattle.rules.specs.KnownBefore.{ordering-kept, option-kept}
-use Rattle.rules.specs.Forced.{option-dropped, ordering-dropped, contradiction, decision-of}
+use Rattle.rules.specs.Forced.{option-dropped, contradiction, decision-of}
 use Rattle.rules.specs.laws.Tests.{and-l, and-r, and-i, or-l, or-r, or-e}
 use Rattle.rules.specs.laws.Slots.{some-in}
 use Rattle.rows.specs.Bits.{has, with}
@@ -21,7 +19,7 @@ use Rattle.forced.specs.Forced.{ForcedAs, ForcedBy}
 use Rattle.given.specs.declared.sets.Given.{Given}
 use Rattle.forced.specs.declared.forcing.Forced.{Forced}
 use Rattle.search.specs.State.{decisions-of, sets-of, with-option-kept, with-option-dropped, with-ordering-kept, with-ordering-dropped}
-use Rattle.search.specs.Branch.{ShowsSheet, Arrays, Apart}
+use Rattle.search.specs.Branch.{Arrays, Apart}
 use Rattle.search.specs.laws.Shown.{forced-as}
 
 holds-below : {row n : ℕ} {p : ℕ → Bool} → Holds row n p → (i : ℕ) → T (has row i) → (i < n) × T (p i)

@@ -5,7 +5,7 @@ use Prim.Native.Nat.{ℕ, _≤_, _<_}
 use native.Mathlib.Omega.{arith}
 use lib.Dec.{T}
 use Rattle.rules.specs.Results.{answer-at-nought}
-use Rattle.rules.specs.laws.Best.{answer-at-nought-is, answer-at-nought-only}
+use Rattle.rules.specs.laws.Best.{answer-at-nought-only}
 use Rattle.sheet.specs.IsRecorded.{is-recorded}
 use Rattle.sheet.specs.Lines.{lines-of}
 use Rattle.sheet.specs.declared.answer.Refusal.the-variants.{NotRecorded, ToleranceTooLarge}

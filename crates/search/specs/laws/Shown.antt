@@ -1,23 +1,22 @@
 -- The sets that the search carries show its decision list, before and after forcing and after one more choice.
 use mathlib.Core.Path.{_≡_, refl, sym, subst, ap, _∙_}
 use mathlib.Core.Bool.{Bool, true, false, not, _&&_, _||_, cond}
-use mathlib.Core.List.{List, [], _∷_, _++_}
+use mathlib.Core.List.{List, _∷_, _++_}
 use Prim.Native.Nat.{ℕ, zero, suc, _+_, _≤_, _<_}
 use native.Mathlib.Omega.{arith}
-use borrow.Author.Tests.{lt-ltb, le-ltb, ltb-true, ltb-false}
+use borrow.Author.Tests.{ltb-true, ltb-false}
 use lib.ListN.{length, getD, take, drop, length-append, List·getD-eq-default}
 use lib.Seq.{take-at, drop-at}
 use lib.Dec.{T, eqb, eqb→eq, ltb}
 use Rattle.rules.specs.Slots.{list-of}
 use Rattle.rules.specs.Lines.{Lines}
-use Rattle.rules.specs.Subscription.{Subscription, subscription, items}
+use Rattle.rules.specs.Subscription.{subscription, items}
 use Rattle.rules.specs.Decisions.{Decision, Open, Kept, Dropped, is-open, is-kept, is-dropped, decided-by-slot}
-use Rattle.rules.specs.Forced.{option-dropped, decision-of, forced-option, forced-ordering, forced}
-use Rattle.rules.specs.laws.Tests.{T-false}
+use Rattle.rules.specs.Forced.{decision-of, forced-option, forced-ordering, forced}
 use Rattle.rules.specs.laws.Slots.{length-list-of, getD-list-of, list-of-same}
 use Rattle.rules.specs.laws.Decisions.{just-the-kept}
 use Rattle.rules.specs.laws.search.Branch.{decide-next}
-use Rattle.rows.specs.Bits.{has, with}
+use Rattle.rows.specs.Bits.{has}
 use Rattle.rows.specs.Sets.{Holds}
 use Rattle.rows.specs.laws.Bits.{has-with-slot}
 use Rattle.rows.specs.laws.Sets.{holds-at}

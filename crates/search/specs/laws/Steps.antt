@@ -1,31 +1,26 @@
 -- Each way out of the recursive branch keeps its promise.
 use mathlib.Core.Path.{_≡_, refl, sym, subst, ap, _∙_}
-use mathlib.Core.Bool.{Bool, true, false, not, _&&_, _||_, cond}
-use mathlib.Core.List.{List, [], _∷_, _++_}
-use mathlib.Core.Option.{Option, none, some}
-use Prim.Native.Nat.{ℕ, zero, suc, _+_, _-_, _≤_, _<_}
-use native.Mathlib.Numerals.{add-one}
+use mathlib.Core.Bool.{Bool, true, false, not, cond}
+use mathlib.Core.List.{List}
+use mathlib.Core.Option.{some}
+use Prim.Native.Nat.{ℕ, suc, _+_, _-_, _≤_, _<_}
 use native.Mathlib.Omega.{arith}
 use borrow.Author.Tests.{ltb-true, ltb-false}
 use lib.ListN.{length}
-use lib.Dec.{T, T-not, not-T, ltb}
-use Rattle.rules.specs.Slots.{some-below, list-of}
+use lib.Dec.{T, ltb}
+use Rattle.rules.specs.Slots.{list-of}
 use Rattle.rules.specs.Lines.{Lines}
 use Rattle.rules.specs.Subscription.{Subscription, subscription, items}
 use Rattle.rules.specs.Relaxation.{ConsistentRelaxation, value-of}
-use Rattle.rules.specs.Decisions.{Decision, Open, Kept, Dropped, is-open, DecidedBySlot, decided-by-slot, open-items}
-use Rattle.rules.specs.KnownBefore.{ordering-kept, option-kept}
-use Rattle.rules.specs.Forced.{option-dropped, ordering-dropped, contradiction, decision-of, forced}
+use Rattle.rules.specs.Decisions.{Decision, Kept, Dropped, is-open, DecidedBySlot, decided-by-slot, open-items}
+use Rattle.rules.specs.Forced.{contradiction, decision-of, forced}
 use Rattle.rules.specs.Limits.{M, K, D, whole-lower, whole-upper}
-use Rattle.rules.specs.laws.Tests.{and-i, or-l, or-r, T-true, T-false}
-use Rattle.rules.specs.laws.Slots.{some-in}
 use Rattle.rules.specs.laws.Decisions.{just-the-kept}
 use Rattle.rules.specs.laws.search.Branch.{decide-next}
 use Rattle.rules.specs.laws.search.Finds as R
 use Rattle.rules.specs.laws.search.Finds.{Finds}
 use Rattle.rules.specs.laws.search.Steps.{contradiction-finds-nothing, limit-finds-nothing, leaf-finds, worse-leaf-finds-nothing, branch-finds, kept-branch-is-smaller, dropped-branch-is-smaller}
-use Rattle.rows.specs.Bits.{has, with}
-use Rattle.rows.specs.laws.Bits.{has-with-slot}
+use Rattle.rows.specs.Bits.{has}
 use Rattle.rows.specs.laws.Sets.{holds-at}
 use Rattle.graph.specs.Shown.{counted}
 use Rattle.forced.specs.Forced.{ForcedAs, ForcedBy}
@@ -35,7 +30,7 @@ use Rattle.given.specs.declared.sets.Given.{Given}
 use Rattle.forced.specs.declared.forcing.Forced.{Forced}
 use Rattle.half.specs.declared.opened.Half.{Half}
 use Rattle.search.specs.First.{FirstOf}
-use Rattle.search.specs.State.{decisions-of, chosen-list, found-if, shown, needless, taken, sets-of, with-option-kept, with-option-dropped, with-ordering-kept, with-ordering-dropped}
+use Rattle.search.specs.State.{decisions-of, chosen-list, shown, needless, taken, with-option-kept, with-option-dropped, with-ordering-kept, with-ordering-dropped}
 use Rattle.search.specs.Branch.{ShowsSheet, Arrays, Apart, Branched}
 use Rattle.search.specs.laws.Lists.{open-here, open-past, open-alone, none-open-alone}
 use Rattle.search.specs.laws.Shown.{size-of, counted-is, forced-as, forced-shown, kept-shown, is-open-two, not-open-two, option-kept-shown, option-dropped-shown, ordering-kept-shown, ordering-dropped-shown}

@@ -1,19 +1,16 @@
 -- The search from nothing decided answers the tolerance, for whatever sheet the arrays show.
 use mathlib.Core.Path.{_≡_, refl, sym, subst, ap, _∙_}
-use mathlib.Core.Bool.{Bool, true, false, not, _||_}
-use mathlib.Core.List.{List, [], _∷_, _++_}
-use mathlib.Core.Option.{Option, none, some}
-use Prim.Native.Nat.{ℕ, zero, suc, _+_, _-_, _≤_, _<_, min}
+use mathlib.Core.Bool.{Bool, true, false}
+use mathlib.Core.List.{List, _∷_, _++_}
+use Prim.Native.Nat.{ℕ, zero, suc, _+_, _-_, _≤_, min}
 use native.Mathlib.Omega.{arith}
-use lib.ListN.{length, getD, length-append}
 use lib.Dec.{T}
 use Rattle.rules.specs.Slots.{list-of}
 use Rattle.rules.specs.Lines.{Lines}
 use Rattle.rules.specs.Subscription.{Subscription, subscription, items}
 use Rattle.rules.specs.Relaxation.{kept-by-slot, ConsistentRelaxation, value-of}
-use Rattle.rules.specs.Decisions.{Decision, Open, decided-by-slot, Agrees, all-open}
+use Rattle.rules.specs.Decisions.{Open, decided-by-slot, Agrees, all-open}
 use Rattle.rules.specs.Forced.{decision-of}
-use Rattle.rules.specs.Limits.{M, D}
 use Rattle.rules.specs.Best as R
 use Rattle.rules.specs.Best.{AnswerTo}
 use Rattle.rules.specs.laws.Slots.{list-of-same}
@@ -22,7 +19,7 @@ use Rattle.rules.specs.laws.Decisions.{agrees-all-open}
 use Rattle.rules.specs.laws.OnSlots.{agrees-by-slot, consistent-by-slot}
 use Rattle.rules.specs.laws.Best.{none-kept, dropping-all-is-worth-nothing}
 use Rattle.rules.specs.laws.search.Finds as S
-use Rattle.rules.specs.laws.search.Finds.{Finds, nothing, better, holds}
+use Rattle.rules.specs.laws.search.Finds.{Finds, nothing, better}
 use Rattle.rules.specs.laws.search.Passes.{from-floor, answer}
 use Rattle.rules.specs.laws.search.Answers.{one-pass-answers}
 use Rattle.rows.specs.Bits.{has}
@@ -34,10 +31,9 @@ use Rattle.forced.specs.declared.forcing.Forced.{Forced}
 use Rattle.half.specs.declared.opened.Half.{Half}
 use Rattle.search.specs.State.{decisions-of, chosen-list, found-if, shown, nothing-given, nothing-found}
 use Rattle.search.specs.Branch.{ShowsSheet, Arrays, Apart, Branched}
-use Rattle.search.specs.Search.{answer-in, FoundBy}
+use Rattle.search.specs.Search.{FoundBy}
 use Rattle.search.specs.laws.Steps.{size, upper-M-D}
 use Rattle.search.specs.declared.leaf.SoFar.{SoFar}
-use Rattle.search.specs.declared.found.Found.{Found}
 
 nothing-has : (i : ℕ) → T (has 0 i) → ⊥
 nothing-has i t = subst T (has-none i) t

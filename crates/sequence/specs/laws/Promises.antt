@@ -1,6 +1,6 @@
 -- What the answer of `sequence` means: there is one exactly for a consistent relaxation, and it is the smallest.
 use mathlib.Core.Path.{_≡_, refl, sym, subst, ap, _∙_}
-use mathlib.Core.Bool.{Bool, true, false, not, cond}
+use mathlib.Core.Bool.{Bool, true, false, cond}
 use mathlib.Core.Logic.{_↔_}
 use mathlib.Core.List.{List, map}
 use mathlib.Core.Option.{none, some}
@@ -10,8 +10,7 @@ use lib.Dec.{T}
 use Rattle.rules.specs.Lines.{Lines}
 use Rattle.rules.specs.Subscription.{subscription, Proper}
 use Rattle.rules.specs.Limits.{A}
-use Rattle.rows.specs.Bits.{has}
-use Rattle.given.specs.Given.{decided, decision, decided-past, open-within, decision-list}
+use Rattle.given.specs.Given.{decided, decided-past, open-within, decision-list}
 use Rattle.rules.specs.Results.{is-consistent, numbers-in-sequence, sequence-of-choice}
 use Rattle.rules.specs.Sequence.{precedes, kept-slots}
 use Rattle.rules.specs.Relaxation.{kept-by-slot}

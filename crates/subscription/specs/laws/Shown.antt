@@ -15,7 +15,6 @@ use Rattle.sheet.specs.Lines.{lines-of}
 use Rattle.sheet.specs.Recorded.{Recorded}
 use Rattle.sheet.proofs.LinesLaws.{option-lines, ordering-lines, slot-number, slot-first, slot-second}
 use Rattle.sheet.specs.declared.sheet.Sheet.{Sheet}
-use Rattle.subscription.specs.declared.slots_of_sheet.BySlot.{BySlot}
 
 pub counted-is : (s : Sheet) → counted (s .«option_count») (s .«ordering_count») (subscription (lines-of s)) ≡ subscription (lines-of s)
 unfolding subscription

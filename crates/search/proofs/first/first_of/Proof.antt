@@ -6,11 +6,10 @@ use Rattle.search.proofs.first.first_of.Reads as reads
 use Rattle.search.proofs.first.first_of.Lts as lts
 use Rattle.rows.proofs.get64.Reads as get64-reads
 use mathlib.Core.Path.{_≡_, sym, _∙_}
-use mathlib.Core.Bool.{true, false}
-use Prim.Native.Nat.{ℕ, _+_, _-_, _≤_, _<_}
+use mathlib.Core.Bool.{false}
+use Prim.Native.Nat.{ℕ, _-_, _≤_, _<_}
 use native.Mathlib.Omega.{arith}
 use Rattle.rows.specs.Bits.{has}
-use Rattle.search.specs.First.{FirstOf}
 use Rattle.search.specs.laws.First.{one-more}
 
 abbrev Inv-loop : tie.InvT-loop

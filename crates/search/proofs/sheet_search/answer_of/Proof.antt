@@ -1,6 +1,5 @@
 -- The record's rule gives what each part asks for; the law `answers-of` puts the parts together.
 use Rattle.search.specs.laws.Answered.{shows-of, arrays-of, answers-of}
-use borrow.Author.Needs.{needs}
 use Rattle.search.proofs.sheet_search.answer_of.Statement.{statement}
 use Rattle.search.proofs.sheet_search.answer_of.Tie as tie
 use Rattle.search.proofs.sheet_search.answer_of.Reads as reads

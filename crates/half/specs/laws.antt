@@ -1,3 +1,4 @@
 pub mod Weights
 pub mod Half
+pub mod Shown
 pub mod Filled

@@ -12,3 +12,4 @@ pub use opened::open_options;
 pub use opened::open_orderings;
 pub use weights::weigh;
 pub use weights::weigh_both;
+pub use weights::weight_if;

@@ -1,5 +1,6 @@
 pub mod Tests
 pub mod Slots
+pub mod TwoLists
 pub mod Sums
 pub mod Joined
 pub mod BySlot
@@ -9,6 +10,7 @@ pub mod OpenItems
 pub mod Bounds
 pub mod Limits
 pub mod Decisions
+pub mod OpenLists
 pub mod OnSlots
 pub mod ForcedList
 pub mod Contradiction

@@ -18,8 +18,8 @@ use Rattle.sheet.specs.declared.answer.Refusal.{Refusal}
 use Rattle.sheet.specs.declared.answer.Refusal.the-variants.{NotRecorded, ToleranceTooLarge}
 use Rattle.sheet.specs.declared.answer.Answer.the-variants.{Accepted, Refused}
 use Rattle.sheet.specs.declared.sheet.Sheet.{Sheet}
-use Rattle.search.specs.State.{chosen-list}
-use Rattle.search.specs.Branch.{ShowsSheet}
+use Rattle.settle.specs.Arrays.{ShowsSheet}
+use Rattle.settle.specs.Sets.{chosen-list}
 use Rattle.search.specs.declared.found.Found.{Found}
 use Rattle.search.specs.declared.sheet_search.Searched.{Searched}
 

@@ -1,8 +1,7 @@
 pub mod First
-pub mod Lists
-pub mod Shown
-pub mod Apart
+pub mod Items
 pub mod Steps
+pub mod Values
 pub mod Whole
 pub mod Answered
 pub mod Searched

@@ -1,22 +1,25 @@
 // The recursive branch over kept and dropped choices.
-use crate::first::first_of;
-use crate::leaf::SoFar;
-use crate::leaf::drop_option;
-use crate::leaf::drop_ordering;
-use crate::leaf::is_needless;
-use crate::leaf::keep_option;
-use crate::leaf::keep_ordering;
-use crate::leaf::take;
+use crate::first::first_item;
+use crate::so_far::SoFar;
+use crate::so_far::take;
+use crate::so_far::wanted;
 use given::Given;
+use settle::drop_item;
+use settle::keep_item;
+use settle::settle;
 ghost use Prim.Native.Nat.{ℕ, _+_, _≤_, _<_};
 ghost use lib.ListN.{length};
-ghost use Rattle.search.specs.Branch.{Arrays, Apart, Branched};
+ghost use Rattle.settle.specs.Arrays.{Arrays};
+ghost use Rattle.settle.specs.Sets.{Apart};
+ghost use Rattle.search.specs.Branch.{Branched};
 
-// Forced decisions first; then the first open item in slot order, options before orderings, is kept, and after that dropped.
+// The sheet is settled; then the first open item in slot order, options before orderings, is kept, and after that dropped. Nothing is worth
+// more than the ceiling, so a find that reaches it is the last.
 pub fn branch<'a>(
     g: Given,
     a: SoFar,
     tolerance: u32,
+    ceiling: u32,
     t: [u32; 32],
     first: &'a [u8],
     second: &'a [u8],
@@ -26,74 +29,48 @@ pub fn branch<'a>(
     m: usize,
 ) -> SoFar
     requires { ⌜ Arrays n m (now first) (now second) t (now weights) (now «ordering_weights») × Apart n m g × (a .goal ≤ 6291361) × (tolerance ≤ 959904) ⌝ }
-    ensures { λ r. ⌜ Branched n m (now (first .entry)) (now (second .entry)) t (now (weights .entry)) (now («ordering_weights» .entry)) tolerance g a r ⌝ }
+    ensures { λ r. ⌜ Branched n m (now (first .entry)) (now (second .entry)) t (now (weights .entry)) (now («ordering_weights» .entry)) tolerance ceiling g a r ⌝ }
 {
-    let f = forced::force(g, t, first, second, n, m);
-    let contradiction = f.contradiction;
-    if contradiction {
+    let want = wanted(a, tolerance);
+    if ceiling < want {
         return a;
     }
-    let h = half::half_decided(f, weights, ordering_weights, n, m);
-    if is_needless(a, tolerance, h.upper) {
+    let x = settle(g, want, t, first, second, weights, ordering_weights, n, m);
+    let over = x.over;
+    if over {
         return a;
     }
-    let i = first_of(h.open_options as u64, n);
-    if i < n {
-        let x = keep_option(f, i);
-        let b = branch(
-            x,
-            a,
-            tolerance,
-            t,
-            first,
-            second,
-            weights,
-            ordering_weights,
-            n,
-            m,
-        );
-        let y = drop_option(f, i);
-        return branch(
-            y,
-            b,
-            tolerance,
-            t,
-            first,
-            second,
-            weights,
-            ordering_weights,
-            n,
-            m,
-        );
+    let left = x.given;
+    let i = first_item(x.open_options, x.open_orderings, n, m);
+    if 96 <= i {
+        return take(a, left, x.lower);
     }
-    let u = first_of(h.open_orderings, m);
-    if u < m {
-        let x = keep_ordering(f, u);
-        let b = branch(
-            x,
-            a,
-            tolerance,
-            t,
-            first,
-            second,
-            weights,
-            ordering_weights,
-            n,
-            m,
-        );
-        let y = drop_ordering(f, u);
-        return branch(
-            y,
-            b,
-            tolerance,
-            t,
-            first,
-            second,
-            weights,
-            ordering_weights,
-            n,
-            m,
-        );
-    }
-    take(a, f, h.lower)
+    let kept = keep_item(left, i);
+    let b = branch(
+        kept,
+        a,
+        tolerance,
+        ceiling,
+        t,
+        first,
+        second,
+        weights,
+        ordering_weights,
+        n,
+        m,
+    );
+    let dropped = drop_item(left, i);
+    branch(
+        dropped,
+        b,
+        tolerance,
+        ceiling,
+        t,
+        first,
+        second,
+        weights,
+        ordering_weights,
+        n,
+        m,
+    )
 }

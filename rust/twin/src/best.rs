@@ -56,3 +56,18 @@ pub fn best(sheet: &Sheet) -> (Decisions, u32) {
     }
     found.expect("dropping everything is consistent")
 }
+
+/// Every consistent relaxation, in tie order.
+///
+/// # Panics
+/// If the sheet has more than [`MOST_ENUMERATED`] items.
+pub fn every_consistent(sheet: &Sheet) -> Vec<Decisions> {
+    assert!(
+        sheet.items() <= MOST_ENUMERATED,
+        "too many items to look at every choice"
+    );
+    (0..1u32 << sheet.items())
+        .map(|number| choice(sheet, number))
+        .filter(|choice| is_consistent(sheet, choice))
+        .collect()
+}

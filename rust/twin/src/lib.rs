@@ -9,11 +9,13 @@
 
 mod answer;
 mod best;
+mod bytes;
 pub mod damage;
 mod decisions;
 mod forced;
 mod lent;
 mod limits;
+pub mod quick;
 pub mod random;
 mod reading;
 mod record;
@@ -26,7 +28,7 @@ mod sheet;
 mod writing;
 
 pub use answer::{Answer, Fault, MOST_TOLERANCE, check_answer};
-pub use best::{MOST_ENUMERATED, best};
+pub use best::{MOST_ENUMERATED, best, every_consistent};
 pub use decisions::{Decision, Decisions};
 pub use forced::{Forced, forced};
 pub use lent::{limits_of, report_into, search_refused, sequence_of, write_into};

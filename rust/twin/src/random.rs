@@ -49,7 +49,7 @@ impl Random {
     }
 
     /// The first `count` of these in a random order.
-    fn draw<T>(&mut self, mut from: Vec<T>, count: usize) -> Vec<T> {
+    pub fn draw<T>(&mut self, mut from: Vec<T>, count: usize) -> Vec<T> {
         for index in 0..count {
             let other = self.within(index, from.len() - 1);
             from.swap(index, other);
@@ -61,14 +61,15 @@ impl Random {
 
 /// How weights are drawn: small ones make ties, large ones make long lines.
 #[derive(Clone, Copy)]
-enum Weights {
+pub(crate) enum Weights {
     Zero,
     One,
     Few,
     Any,
 }
 
-const ALL_WEIGHTS: [Weights; 4] = [Weights::Zero, Weights::One, Weights::Few, Weights::Any];
+pub(crate) const ALL_WEIGHTS: [Weights; 4] =
+    [Weights::Zero, Weights::One, Weights::Few, Weights::Any];
 
 fn weight(random: &mut Random, weights: Weights) -> u16 {
     let drawn = match weights {
@@ -81,7 +82,7 @@ fn weight(random: &mut Random, weights: Weights) -> u16 {
 }
 
 /// Some option lines with different numbers, in random order.
-fn options(random: &mut Random, count: usize, weights: Weights) -> Vec<Subscription> {
+pub(crate) fn options(random: &mut Random, count: usize, weights: Weights) -> Vec<Subscription> {
     let largest: u8 = if count < 10 && random.once_in(2) {
         9
     } else {
@@ -98,7 +99,7 @@ fn options(random: &mut Random, count: usize, weights: Weights) -> Vec<Subscript
 }
 
 /// Up to `count` ordering lines between these options, as many as there are pairs.
-fn orderings(
+pub(crate) fn orderings(
     random: &mut Random,
     options: &[Subscription],
     count: usize,
@@ -121,7 +122,7 @@ fn orderings(
 }
 
 /// Catalogue lines, most of them between subscribed options; one in so many is an exclusion.
-fn catalogue(
+pub(crate) fn catalogue(
     random: &mut Random,
     options: &[Subscription],
     count: usize,
@@ -300,7 +301,7 @@ fn damage_record(random: &mut Random, record: &mut Record) {
     let number = random.pick(&[0, 1, 2, 250, 251, 255, named, named]);
     let weight = random.pick(&[0, 1, 9999, 10_000, 65_535]);
     match random.below(11) {
-        0 => record.letters[line] = random.pick(&[0, 1, 2, 3, 255]),
+        0 => record.letters[line] = random.pick(b"\0CXFU"),
         1 => record.befores[line] = number,
         2 => record.afters[line] = number,
         3 => record.numbers[option] = number,

@@ -6,7 +6,7 @@ use crate::sheet::{CatalogueLine, Letter, Ordering, Sheet, Subscription};
 #[derive(Clone, Debug, PartialEq, Eq)]
 pub struct Record {
     pub catalogue_count: usize,
-    /// 0 unused, 1 `C`, 2 `X`
+    /// 0 unused, else the letter of the line as a byte
     pub letters: [u8; Sheet::CATALOGUE_LINES],
     pub befores: [u8; Sheet::CATALOGUE_LINES],
     pub afters: [u8; Sheet::CATALOGUE_LINES],
@@ -42,7 +42,7 @@ impl Record {
         let mut record = Record::empty();
         record.catalogue_count = sheet.catalogue.len();
         for (index, line) in sheet.catalogue.iter().enumerate() {
-            record.letters[index] = if line.letter == Letter::C { 1 } else { 2 };
+            record.letters[index] = if line.letter == Letter::C { b'C' } else { b'X' };
             record.befores[index] = line.before;
             record.afters[index] = line.after;
         }
@@ -67,7 +67,7 @@ impl Record {
         }
         let mut sheet = Sheet::default();
         for index in 0..self.catalogue_count {
-            let letter = if self.letters[index] == 1 {
+            let letter = if self.letters[index] == b'C' {
                 Letter::C
             } else {
                 Letter::X
@@ -128,7 +128,10 @@ fn catalogue_is_recorded(record: &Record) -> bool {
             return line == (0, 0, 0);
         }
         let (letter, before, after) = line;
-        (letter == 1 || letter == 2) && is_number(before) && is_number(after) && before != after
+        (letter == b'C' || letter == b'X')
+            && is_number(before)
+            && is_number(after)
+            && before != after
     })
 }
 

@@ -11,9 +11,7 @@ use Rattle.rules.specs.Subscription.{Subscription}
 use Rattle.rules.specs.Decisions.{DecidedBySlot}
 use Rattle.rules.specs.KnownBefore.{touches}
 use Rattle.rules.specs.Limits.{option-open, ordering-open, M, K, D, A, B, E, clash, weight-with-orderings, whole-lower, whole-upper, option-kept-lower, option-kept-upper, option-dropped-lower, option-dropped-upper, ordering-kept-lower, ordering-kept-upper, ordering-dropped-lower, ordering-dropped-upper}
-use Rattle.rules.specs.laws.Sums.{sum-cong}
 use Rattle.rows.specs.Bits.{has}
-use Rattle.rows.specs.laws.Sets.{holds-at}
 use Rattle.graph.specs.Graph.{EndsAreSlots}
 use Rattle.graph.specs.Shown.{counted, Shows}
 use Rattle.forced.specs.Forced.{ForcedAs}
@@ -23,9 +21,9 @@ use Rattle.half.specs.Half.{clashes-in, HalfDecidedAs}
 use Rattle.limits.specs.Cells.{no-limit, open-option-in, open-ordering-in, weight-with-orderings-in, option-limit-in, ordering-limit-in}
 use Rattle.limits.specs.Limited.{shown-limit}
 use Rattle.half.specs.laws.Weights.{over-same, over-same-tests}
+use Rattle.half.specs.laws.Shown as H
 use Rattle.limits.specs.laws.Charges.{same-weight-with-orderings}
 use Rattle.rules.specs.Results as R
-use Rattle.rules.specs.Results.{option-limit, ordering-limit}
 use Rattle.forced.specs.declared.forcing.Forced.{Forced}
 use Rattle.limits.specs.declared.cells.Limit.{Limit}
 use Rattle.half.specs.declared.opened.Half.{Half}
@@ -50,29 +48,22 @@ module _ (v : Subscription) (b : DecidedBySlot) (n m : ℕ) (firsts seconds rows
 
   module _ (f : Forced) (h : Half) (forces : ForcedAs s b f) (half : HalfDecidedAs f n m ws bs h) where
     option-open-is : (i : ℕ) → i < n → has (h .«open_options») i ≡ option-open s b i
-    option-open-is i l = holds-at (half .options) i l ∙ rw (holds-at (forces .kept) i l, holds-at (forces .dropped) i l) refl
+    option-open-is = H.option-open-is v b n m ws bs weighs f h forces half
 
     ordering-open-is : (u : ℕ) → u < m → has (h .«open_orderings») u ≡ ordering-open s b u
-    ordering-open-is u l = holds-at (half .orderings) u l ∙ rw (holds-at (forces .kept-orderings) u l, holds-at (forces .dropped-orderings) u l) refl
+    ordering-open-is = H.ordering-open-is v b n m ws bs weighs f h forces half
 
     weight-is : (i : ℕ) → i < n → weight-in ws i ≡ v .weight i
-    weight-is i l = sym (weighs .weight i l)
+    weight-is = H.weight-is v b n m ws bs weighs
 
     ordering-weight-is : (u : ℕ) → u < m → weight-in bs u ≡ v .ordering-weight u
-    ordering-weight-is u l = sym (weighs .ordering-weight u l)
+    ordering-weight-is = H.ordering-weight-is v b n m ws bs weighs
 
     K-is : h .lower ≡ K s b
-    unfolding K
-    K-is = half .lower ∙ rw (over-same n (weight-in ws) (v .weight) _ _ weight-is (holds-at (forces .kept)), over-same m (weight-in bs) (v .ordering-weight) _ _ ordering-weight-is (holds-at (forces .kept-orderings))) refl
+    K-is = H.K-is v b n m ws bs weighs f h forces half
 
     M-less-D-is : h .upper ≡ M s b - D s b
-    unfolding M D
-    M-less-D-is = half .upper ∙ rw (
-      over-same n (weight-in ws) (v .weight) _ _ weight-is (holds-at (forces .dropped)),
-      over-same m (weight-in bs) (v .ordering-weight) _ _ ordering-weight-is (holds-at (forces .dropped-orderings)),
-      sum-cong n (weight-in ws) (v .weight) weight-is,
-      sum-cong m (weight-in bs) (v .ordering-weight) ordering-weight-is,
-    ) refl
+    M-less-D-is = H.M-less-D-is v b n m ws bs weighs f h forces half
 
     pub lower-is : h .lower ≡ whole-lower s b
     unfolding whole-lower

@@ -84,7 +84,7 @@ module _ (v : Subscription) (d : DecidedBySlot) where
     keeps-ordering u t = ag .keeps-ordering u t
 
     -- Open items that c does not keep are missing, beside what is dropped.
-    taken-off : (p q : ℕ → Bool) → Apart (c .option) p → Apart (c .ordering) q → Within p (option-open v d) → Within q (ordering-open v d)
+    pub taken-off : (p q : ℕ → Bool) → Apart (c .option) p → Apart (c .ordering) q → Within p (option-open v d) → Within q (ordering-open v d)
         → value v c + D v d + weight-of v p q ≤ M v d
     unfolding D M
     taken-off p q np nq op oq = upper v c (option-dropped v d) (ordering-dropped v d) p q drops drops-ordering np nq

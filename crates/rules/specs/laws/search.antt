@@ -4,5 +4,11 @@ pub mod Reduces
 pub mod Valued
 pub mod Passes
 pub mod Seek
-pub mod Steps
+pub mod Items
+pub mod Residual
+pub mod Charged
+pub mod Loose
+pub mod Places
+pub mod Keepable
+pub mod Fights
 pub mod Answers

@@ -1,27 +1,25 @@
--- The search from nothing decided answers the tolerance, for whatever sheet the arrays show.
+-- From nothing decided: the best value, the limit of the whole sheet, and an answer to the tolerance, for whatever sheet the arrays show.
 use mathlib.Core.Path.{_≡_, refl, sym, subst, ap, _∙_}
 use mathlib.Core.Bool.{Bool, true, false}
 use mathlib.Core.List.{List, _∷_, _++_}
-use Prim.Native.Nat.{ℕ, zero, suc, _+_, _-_, _≤_, min}
+use mathlib.Core.Logic.{_⊎_, inl, inr}
+use Prim.Native.Nat.{ℕ, zero, suc, _+_, _-_, min}
 use native.Mathlib.Omega.{arith}
-use lib.Dec.{T}
 use Rattle.rules.specs.Slots.{list-of}
 use Rattle.rules.specs.Lines.{Lines}
-use Rattle.rules.specs.Subscription.{Subscription, subscription, items}
-use Rattle.rules.specs.Relaxation.{kept-by-slot, ConsistentRelaxation, value-of}
-use Rattle.rules.specs.Decisions.{Open, decided-by-slot, Agrees, all-open}
+use Rattle.rules.specs.Subscription.{items}
+use Rattle.rules.specs.Relaxation.{ConsistentRelaxation, value-of}
+use Rattle.rules.specs.Decisions.{Open, Agrees, all-open}
 use Rattle.rules.specs.Forced.{decision-of}
 use Rattle.rules.specs.Best as R
 use Rattle.rules.specs.Best.{AnswerTo}
 use Rattle.rules.specs.laws.Slots.{list-of-same}
-use Rattle.rules.specs.laws.Limits.{whole-upper-holds}
 use Rattle.rules.specs.laws.Decisions.{agrees-all-open}
-use Rattle.rules.specs.laws.OnSlots.{agrees-by-slot, consistent-by-slot}
-use Rattle.rules.specs.laws.Best.{none-kept, dropping-all-is-worth-nothing}
-use Rattle.rules.specs.laws.search.Finds as S
-use Rattle.rules.specs.laws.search.Finds.{Finds, nothing, better}
+use Rattle.rules.specs.laws.Best.{none-kept}
+use Rattle.rules.specs.laws.search.Finds.{Finds}
+use Rattle.rules.specs.laws.search.Valued.{Worth}
 use Rattle.rules.specs.laws.search.Passes.{from-floor, answer}
-use Rattle.rules.specs.laws.search.Answers.{one-pass-answers}
+use Rattle.rules.specs.laws.search.Answers.{nought, reached, floor-pass-answers}
 use Rattle.rows.specs.Bits.{has}
 use Rattle.rows.specs.laws.Bits.{has-none}
 use Rattle.forced.specs.Forced.{ForcedBy}
@@ -29,24 +27,16 @@ use Rattle.half.specs.Half.{HalfDecidedAs}
 use Rattle.given.specs.declared.sets.Given.{Given}
 use Rattle.forced.specs.declared.forcing.Forced.{Forced}
 use Rattle.half.specs.declared.opened.Half.{Half}
-use Rattle.search.specs.State.{decisions-of, chosen-list, found-if, shown, nothing-given, nothing-found}
-use Rattle.search.specs.Branch.{ShowsSheet, Arrays, Apart, Branched}
+use Rattle.settle.specs.Arrays.{ShowsSheet, Arrays}
+use Rattle.settle.specs.Sets.{decisions-of, chosen-list, Apart, nothing-given}
+use Rattle.settle.specs.laws.Apart.{nothing-apart}
+use Rattle.settle.specs.laws.Forcing.{upper-holds}
+use Rattle.search.specs.State.{found-if, shown, nothing-found}
+use Rattle.search.specs.Branch.{Branched}
+use Rattle.search.specs.Value.{ValuedAs, Reached, Above, BoundsAs}
 use Rattle.search.specs.Search.{FoundBy}
-use Rattle.search.specs.laws.Steps.{size, upper-M-D}
-use Rattle.search.specs.declared.leaf.SoFar.{SoFar}
-
-nothing-has : (i : ℕ) → T (has 0 i) → ⊥
-nothing-has i t = subst T (has-none i) t
-
-pub nothing-apart : (n m : ℕ) → Apart n m nothing-given
-nothing-apart n m = record {
-  options = λ i t _. nothing-has i t;
-  orderings = λ u t _. nothing-has u t;
-  kept = λ i t. absurd (nothing-has i t);
-  dropped = λ i t. absurd (nothing-has i t);
-  kept-orderings = λ u t. absurd (nothing-has u t);
-  dropped-orderings = λ u t. absurd (nothing-has u t);
-}
+use Rattle.search.specs.declared.so_far.SoFar.{SoFar}
+use Rattle.search.specs.declared.bounds.Bounds.{Bounds}
 
 -- ---- nothing is decided, and nothing is kept
 pub nothing-decided : (n m : ℕ) → decisions-of n m nothing-given ≡ all-open (n + m)
@@ -79,33 +69,46 @@ nothing-chosen n m = ap (λ l. l ++ list-of m (has 0)) (alone n) ∙ ap (λ l. n
     together zero = let q : m ≡ 0 + m = omega arith in ap none-kept q
     together (suc n) = let q : suc (n + m) ≡ suc n + m = omega arith in ap (λ l. false ∷ l) (together n) ∙ ap none-kept q
 
+module _ (n m : ℕ) (firsts seconds rows ws bs : List ℕ) (g : Given) (eg : g ≡ nothing-given) where
+  fresh : (s : Lines) → ShowsSheet s n m firsts seconds rows ws bs → decisions-of n m g ≡ all-open (items s)
+  fresh s sh = ap (decisions-of n m) eg ∙ nothing-decided n m ∙ ap all-open (let x = sh .options in let y = sh .orderings in let q : n + m ≡ items s = omega arith in q)
+
+  all-agree : (s : Lines) → ShowsSheet s n m firsts seconds rows ws bs → (q : List Bool) → ConsistentRelaxation s q → Agrees (decisions-of n m g) q
+  all-agree s sh q ok = subst (λ z. Agrees z q) (sym (fresh s sh)) (agrees-all-open q (items s) (ok .relaxation .size))
+
+  -- ---- the best value, from one that is reached
+  pub best-is-reached : (floor w : ℕ) → Reached n m firsts seconds rows ws bs floor → ValuedAs n m firsts seconds rows ws bs floor g w → Reached n m firsts seconds rows ws bs w
+  best-is-reached floor w first v = record { small = v .small; reached = λ s sh. from s sh (v .valued s sh 0 .reached) }
+    where
+      from : (s : Lines) → ShowsSheet s n m firsts seconds rows ws bs → (w ≡ floor) ⊎ Worth (value-of s) (ConsistentRelaxation s) (decisions-of n m g) w → (q : List Bool) × ConsistentRelaxation s q × (value-of s q ≡ w)
+      from s sh (inl e) = subst (λ z. (q : List Bool) × ConsistentRelaxation s q × (value-of s q ≡ z)) (sym e) (first .reached s sh)
+      from s sh (inr y) = (y .which, y .allowed, y .is)
+
+  pub best-is-above : (floor w : ℕ) → ValuedAs n m firsts seconds rows ws bs floor g w → Above n m firsts seconds rows ws bs w
+  best-is-above floor w v = record { small = v .small; above = λ s sh q ok. v .valued s sh (suc w) .top (omega arith) q ok (all-agree s sh q ok) }
+
+  -- ---- the limit of the whole sheet
+  pub limit-is-above : Arrays n m firsts seconds rows ws bs → (f : Forced) → ForcedBy n m firsts seconds rows g f → (h : Half) → HalfDecidedAs f n m ws bs h → Above n m firsts seconds rows ws bs (h .upper)
+  limit-is-above arrays f by h half = record {
+    small = half .roomy .upper;
+    above = λ s sh q ok. upper-holds n m firsts seconds rows ws bs arrays 0 g (subst (Apart n m) (sym eg) (nothing-apart n m)) f by s sh h half q ok (all-agree s sh q ok);
+  }
+
+-- ---- what a search starts from
+module _ (n m : ℕ) (firsts seconds rows ws bs : List ℕ) (tolerance : ℕ) where
+  pub bounds-at-nought : tolerance ≡ 0 → (w : ℕ) → Reached n m firsts seconds rows ws bs w → Above n m firsts seconds rows ws bs w → BoundsAs n m firsts seconds rows ws bs tolerance (record { floor = w; ceiling = w })
+  bounds-at-nought z w r a = record { ceiling = a; small = a .small; floor = λ s sh. let (q, ok, e) = r .reached s sh in reached z q ok (omega arith) }
+
+  pub bounds-within : (w : ℕ) → Above n m firsts seconds rows ws bs w → BoundsAs n m firsts seconds rows ws bs tolerance (record { floor = 0; ceiling = w })
+  bounds-within w a = record { ceiling = a; small = omega arith; floor = λ s sh. nought refl }
+
 -- ---- what the search left is an answer
-module _ (n m : ℕ) (firsts seconds rows ws bs : List ℕ) (arrays : Arrays n m firsts seconds rows ws bs) (tolerance : ℕ)
-    (g : Given) (eg : g ≡ nothing-given) (a b : SoFar) (ea : a ≡ nothing-found) (done : Branched n m firsts seconds rows ws bs tolerance g a b)
-    (f : Forced) (by : ForcedBy n m firsts seconds rows g f) (h : Half) (half : HalfDecidedAs f n m ws bs h) where
+module _ (n m : ℕ) (firsts seconds rows ws bs : List ℕ) (tolerance : ℕ) (bounds : Bounds) (bounded : BoundsAs n m firsts seconds rows ws bs tolerance bounds)
+    (g : Given) (eg : g ≡ nothing-given) (a b : SoFar) (ea : a ≡ nothing-found (bounds .floor)) (done : Branched n m firsts seconds rows ws bs tolerance (bounds .ceiling) g a b) where
   module _ (s : Lines) (sh : ShowsSheet s n m firsts seconds rows ws bs) where
-    abbrev v : Subscription
-    v = subscription s
-
-    count : n + m ≡ items s
-    count = let x = sh .options in let y = sh .orderings in omega arith
-
-    fresh : decisions-of n m g ≡ all-open (items s)
-    fresh = ap (decisions-of n m) eg ∙ nothing-decided n m ∙ ap all-open count
-
-    finds : Finds (value-of s) (ConsistentRelaxation s) tolerance (all-open (items s)) (from-floor 0) (shown n m b)
-    finds = subst (λ z. Finds (value-of s) (ConsistentRelaxation s) tolerance z (from-floor 0) (shown n m b)) fresh
-        (subst (λ z. Finds (value-of s) (ConsistentRelaxation s) tolerance (decisions-of n m g) (shown n m z) (shown n m b)) ea (done .finds s sh))
-
-    apart : Apart n m g
-    apart = subst (Apart n m) (sym eg) (nothing-apart n m)
-
-    limit : (r : List Bool) → ConsistentRelaxation s r → value-of s r ≤ h .upper
-    unfolding value-of
-    limit r ok =
-        let ag : Agrees (decisions-of n m g) r = subst (λ z. Agrees z r) (sym fresh) (agrees-all-open r (items s) (ok .relaxation .size)) in
-        let k = whole-upper-holds v (decided-by-slot s (decisions-of n m g)) (kept-by-slot s r) (consistent-by-slot s r ok) (agrees-by-slot s (decisions-of n m g) r ag) in
-        let q = upper-M-D n m firsts seconds rows ws bs arrays tolerance g apart f by s sh h half in omega arith
+    finds : Finds (value-of s) (ConsistentRelaxation s) tolerance (all-open (items s)) (from-floor (bounds .floor)) (shown n m b)
+    finds = subst (λ z. Finds (value-of s) (ConsistentRelaxation s) tolerance z (from-floor (bounds .floor)) (shown n m b)) (fresh n m firsts seconds rows ws bs g eg s sh)
+        (subst (λ z. Finds (value-of s) (ConsistentRelaxation s) tolerance (decisions-of n m g) (shown n m z) (shown n m b)) ea (done .finds s sh (bounded .ceiling .above s sh)))
 
     -- the relaxation that is left, found or not
     left : List Bool
@@ -115,26 +118,24 @@ module _ (n m : ℕ) (firsts seconds rows ws bs : List ℕ) (arrays : Arrays n m
     unfolding left
     left-is = go (b .found) refl
       where
+        count : n + m ≡ items s
+        count = let x = sh .options in let y = sh .orderings in omega arith
+
         go : (x : Bool) → b .found ≡ x → chosen-list n m (b .kept) (b .«kept_orderings») ≡ answer (none-kept (items s)) (found-if x (chosen-list n m (b .kept) (b .«kept_orderings»)))
         go true e = refl
         go false e = ap (λ z. chosen-list n m (z .kept) (z .«kept_orderings»)) (done .unfound e ∙ ea) ∙ nothing-chosen n m ∙ ap none-kept count
 
-    worth-is : b .goal - 1 ≡ value-of s left
+    answers : (b .goal - 1 ≡ value-of s left) × AnswerTo s tolerance (record { relaxation = left; value = value-of s left; ceiling = min (bounds .ceiling) (value-of s left + tolerance) })
     unfolding left
-    worth-is = go finds
-      where
-        go : Finds (value-of s) (ConsistentRelaxation s) tolerance (all-open (items s)) (from-floor 0) (shown n m b) → b .goal - 1 ≡ value-of s (answer (none-kept (items s)) (shown n m b .find))
-        go (nothing e _) = let q = ap (λ z. z .goal) e in let p = ap (λ z. value-of s (answer (none-kept (items s)) (z .find))) e in let k = dropping-all-is-worth-nothing s in omega arith
-        go (better r e _ _) = let q = ap (λ z. z .goal) e in let p = ap (λ z. value-of s (answer (none-kept (items s)) (z .find))) e in omega arith
+    answers = floor-pass-answers s tolerance (bounds .ceiling) (bounds .floor) (shown n m b) (bounded .floor s sh) (bounded .ceiling .above s sh) finds
 
-  pub found-answers : (value ceiling : ℕ) → value ≡ b .goal - 1 → ceiling ≡ min (h .upper) (value + tolerance)
+  pub found-answers : (value ceiling : ℕ) → value ≡ b .goal - 1 → ceiling ≡ min (bounds .ceiling) (value + tolerance)
       → FoundBy n m firsts seconds rows ws bs tolerance (record { kept = b .kept; «kept_orderings» = b .«kept_orderings»; value = value; ceiling = ceiling })
-  unfolding left
-  found-answers value ceiling ev ec s sh = subst (AnswerTo s tolerance) same (one-pass-answers s tolerance (h .upper) (shown n m b) (limit s sh) (finds s sh))
+  found-answers value ceiling ev ec s sh = subst (AnswerTo s tolerance) same (answers s sh .1)
     where
       worth : value-of s (left s sh) ≡ value
-      worth = sym (worth-is s sh) ∙ sym ev
+      worth = sym (answers s sh .0) ∙ sym ev
 
-      same : _≡_ {A = R.Answer} (record { relaxation = left s sh; value = value-of s (left s sh); ceiling = min (h .upper) (value-of s (left s sh) + tolerance) })
+      same : _≡_ {A = R.Answer} (record { relaxation = left s sh; value = value-of s (left s sh); ceiling = min (bounds .ceiling) (value-of s (left s sh) + tolerance) })
           (record { relaxation = chosen-list n m (b .kept) (b .«kept_orderings»); value = value; ceiling = ceiling })
-      same = λ i. record { relaxation = sym (left-is s sh) i; value = worth i; ceiling = (ap (λ z. min (h .upper) (z + tolerance)) worth ∙ sym ec) i }
+      same = λ i. record { relaxation = sym (left-is s sh) i; value = worth i; ceiling = (ap (λ z. min (bounds .ceiling) (z + tolerance)) worth ∙ sym ec) i }

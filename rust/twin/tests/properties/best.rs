@@ -18,6 +18,21 @@ fn winner(sheet: &Sheet, all: &[Relaxation]) -> Relaxation {
         .expect("dropping everything")
 }
 
+#[test]
+fn every_consistent_relaxation_in_tie_order() {
+    for seed in seeds("every consistent", 115_000..116_000) {
+        let sheet = small_sheet(seed, 9);
+        let mut all = consistent_relaxations(&sheet);
+        all.sort_by_key(|one| {
+            (0..sheet.items())
+                .map(|item| !one.keeps(item))
+                .collect::<Vec<_>>()
+        });
+        let wanted: Vec<_> = all.iter().map(|one| one.decisions(&sheet)).collect();
+        assert_eq!(twin::every_consistent(&sheet), wanted, "seed {seed}");
+    }
+}
+
 fn best_is_the_winner(seed: u64, items: usize) {
     let sheet = small_sheet(seed, items);
     let winner = winner(&sheet, &consistent_relaxations(&sheet));

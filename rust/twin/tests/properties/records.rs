@@ -2,7 +2,7 @@
 
 use crate::seeds;
 use twin::random::{Random, damaged_record, decisions, full_sheet, small_sheet};
-use twin::{Record, Refused, Sheet, is_recorded};
+use twin::{Decisions, Record, Refused, Sheet, is_recorded};
 
 fn refusal(number: u32) -> Refused {
     Refused {
@@ -16,7 +16,7 @@ fn refusal(number: u32) -> Refused {
 fn text_of(record: &Record) -> Option<String> {
     let mut text = String::new();
     for i in 0..record.catalogue_count {
-        let letter = ["?", "C", "X"].get(usize::from(*record.letters.get(i)?))?;
+        let letter = char::from(*record.letters.get(i)?);
         text += &format!("{letter} {} {}\n", record.befores[i], record.afters[i]);
     }
     for i in 0..record.option_count {
@@ -70,6 +70,46 @@ fn a_sheet_and_its_record_are_one() {
         };
         assert_eq!(Record::of(&sheet).sheet(), Some(sheet), "seed {seed}");
     }
+}
+
+#[test]
+fn records_and_decisions_as_bytes_and_back() {
+    for seed in seeds("bytes", 456_000..457_000) {
+        let sheet = if seed % 50 == 0 {
+            full_sheet(seed)
+        } else {
+            small_sheet(seed, 40)
+        };
+        let record = damaged_record(seed, &sheet);
+        let bytes = record.to_bytes();
+        assert_eq!(Record::from_bytes(&bytes), Some(record), "seed {seed}");
+        assert_eq!(Record::from_bytes(&bytes[1..]), None, "seed {seed}");
+        let list = decisions(seed, &sheet);
+        let mut bytes = list.to_bytes();
+        assert_eq!(Decisions::from_bytes(&bytes), Some(list), "seed {seed}");
+        bytes[(seed % 96) as usize] = 3;
+        assert_eq!(Decisions::from_bytes(&bytes), None, "seed {seed}");
+    }
+}
+
+/// Where each field stands, by one byte of each.
+#[test]
+fn the_fields_of_a_record_in_bytes() {
+    let mut record = Record::empty();
+    record.catalogue_count = 0x0102;
+    record.option_count = 0x0304;
+    record.ordering_count = 0x0506;
+    (record.weights[0], record.ordering_weights[0]) = (0x0708, 0x090A);
+    (record.letters[0], record.befores[0], record.afters[0]) = (11, 12, 13);
+    (record.numbers[0], record.firsts[0], record.seconds[0]) = (14, 15, 16);
+    record.seconds[63] = 17;
+    let bytes = record.to_bytes();
+    assert_eq!(bytes.len(), 1894);
+    assert_eq!(bytes[..8], [2, 1, 4, 3, 6, 5, 8, 7]);
+    assert_eq!(bytes[70..72], [10, 9]);
+    let starts = [198, 710, 1222, 1734, 1766, 1830, 1893];
+    let found: Vec<u8> = starts.iter().map(|&start| bytes[start]).collect();
+    assert_eq!(found, [11, 12, 13, 14, 15, 16, 17]);
 }
 
 /// A buffer with bytes that tell whether it was touched.

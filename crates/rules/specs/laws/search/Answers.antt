@@ -1,8 +1,8 @@
 -- What the passes come to on a sheet: an answer to the tolerance, and at tolerance 0 the best one that the tie rule names.
-use mathlib.Core.Path.{_≡_, refl, sym, subst}
+use mathlib.Core.Path.{_≡_, refl, sym, subst, ap}
 use mathlib.Core.Bool.{Bool}
 use mathlib.Core.List.{List}
-use Prim.Native.Nat.{ℕ, _+_, _≤_, _<_, min}
+use Prim.Native.Nat.{ℕ, _+_, _-_, _≤_, min}
 use native.Mathlib.Omega.{arith}
 use Rattle.rules.specs.Lines.{Lines}
 use Rattle.rules.specs.Subscription.{items}
@@ -10,10 +10,9 @@ use Rattle.rules.specs.Relaxation.{ConsistentRelaxation, value-of}
 use Rattle.rules.specs.Decisions.{Decision, Agrees, all-open}
 use Rattle.rules.specs.Best.{Best, BestOf, AnswerTo}
 use Rattle.rules.specs.laws.Decisions.{agrees-all-open}
-use Rattle.rules.specs.laws.Best.{none-kept, dropping-all-is-consistent}
+use Rattle.rules.specs.laws.Best.{none-kept, dropping-all-is-consistent, dropping-all-is-worth-nothing}
 use Rattle.rules.specs.laws.search.Finds.{WithinTolerance, within-0-is-best, SoFar, holds, Finds, nothing, better}
-use Rattle.rules.specs.laws.search.Valued.{Worth, Valued}
-use Rattle.rules.specs.laws.search.Passes.{from-floor, answer, two-passes, tolerance-pass}
+use Rattle.rules.specs.laws.search.Passes.{from-floor, answer, tolerance-pass}
 
 module _ (s : Lines) where
   abbrev fresh : List Decision
@@ -42,11 +41,38 @@ module _ (s : Lines) where
       best z (better b e w n) = subst (λ i. BestOf s (answer (none-kept (items s)) (i .find))) (sym e)
           (best-of-all b (within-0-is-best (value-of s) b (subst (λ t. WithinTolerance (value-of s) t (λ r. ConsistentRelaxation s r × Agrees fresh r) b) z n)))
 
-  -- VALUE FIRST: a pass for the value in any order, then one in slot order from that value.
-  pub two-passes-answer : (stop floor w : ℕ) (now : SoFar) → w < stop → Worth (value-of s) (ConsistentRelaxation s) fresh floor → Valued (value-of s) (ConsistentRelaxation s) stop floor fresh w
-      → Finds (value-of s) (ConsistentRelaxation s) 0 fresh (from-floor w) now
-      → (b : List Bool) × (now ≡ holds (value-of s) b) × AnswerTo s 0 (record { relaxation = b; value = value-of s b; ceiling = value-of s b })
-  two-passes-answer stop floor w now l g p f =
-      let a = two-passes (value-of s) (ConsistentRelaxation s) stop floor w fresh now l g p f in
-      let best = best-of-all (a .which) (a .best) in
-      (a .which, a .found, record { allowed = best .allowed; worth = refl; top = best .top; near = omega arith; best = λ _. best })
+  -- A floor that no search is too high for: 0, or at tolerance 0 a value that some consistent relaxation reaches.
+  pub data GoodFloor (tolerance floor : ℕ) : Type 0 where
+    nought : floor ≡ 0 → GoodFloor tolerance floor
+    reached : tolerance ≡ 0 → (r : List Bool) → ConsistentRelaxation s r → floor ≤ value-of s r → GoodFloor tolerance floor
+
+  -- ONE PASS FROM A GOOD FLOOR: what it leaves is worth its goal less one, and answers the tolerance.
+  pub floor-pass-answers : (tolerance root floor : ℕ) (now : SoFar) → GoodFloor tolerance floor → ((r : List Bool) → ConsistentRelaxation s r → value-of s r ≤ root)
+      → Finds (value-of s) (ConsistentRelaxation s) tolerance fresh (from-floor floor) now
+      → (now .goal - 1 ≡ value-of s (answer (none-kept (items s)) (now .find))) × AnswerTo s tolerance (record {
+        relaxation = answer (none-kept (items s)) (now .find);
+        value = value-of s (answer (none-kept (items s)) (now .find));
+        ceiling = min root (value-of s (answer (none-kept (items s)) (now .find)) + tolerance);
+      })
+  floor-pass-answers tolerance root floor now good limit found = go good found
+    where
+      worth : Finds (value-of s) (ConsistentRelaxation s) tolerance fresh (from-floor 0) now → now .goal - 1 ≡ value-of s (answer (none-kept (items s)) (now .find))
+      worth (nothing e _) = let q = ap (λ z. z .goal) e in let p = ap (λ z. value-of s (answer (none-kept (items s)) (z .find))) e in let k = dropping-all-is-worth-nothing s in omega arith
+      worth (better b e _ _) = let q = ap (λ z. z .goal) e in let p = ap (λ z. value-of s (answer (none-kept (items s)) (z .find))) e in omega arith
+
+      -- a find from a floor is a find from nothing
+      lower : (b : List Bool) → now ≡ holds (value-of s) b → WithinTolerance (value-of s) tolerance (λ r. ConsistentRelaxation s r × Agrees fresh r) b → Finds (value-of s) (ConsistentRelaxation s) tolerance fresh (from-floor 0) now
+      lower b e n = better b e (omega arith) n
+
+      from-nothing : GoodFloor tolerance floor → Finds (value-of s) (ConsistentRelaxation s) tolerance fresh (from-floor floor) now → Finds (value-of s) (ConsistentRelaxation s) tolerance fresh (from-floor 0) now
+      from-nothing (nought z) f = subst (λ k. Finds (value-of s) (ConsistentRelaxation s) tolerance fresh (from-floor k) now) z f
+      from-nothing (reached z r o l) (nothing e h) = let k = h r o (agrees r o) in absurd (omega arith)
+      from-nothing (reached z r o l) (better b e w n) = lower b e n
+
+      go : GoodFloor tolerance floor → Finds (value-of s) (ConsistentRelaxation s) tolerance fresh (from-floor floor) now
+          → (now .goal - 1 ≡ value-of s (answer (none-kept (items s)) (now .find))) × AnswerTo s tolerance (record {
+            relaxation = answer (none-kept (items s)) (now .find);
+            value = value-of s (answer (none-kept (items s)) (now .find));
+            ceiling = min root (value-of s (answer (none-kept (items s)) (now .find)) + tolerance);
+          })
+      go g f = let k = from-nothing g f in (worth k, one-pass-answers tolerance root now limit k)

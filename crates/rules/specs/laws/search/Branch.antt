@@ -3,11 +3,12 @@ use mathlib.Core.Path.{_≡_, refl, ap}
 use mathlib.Core.Bool.{Bool, true, false, not}
 use mathlib.Core.Logic.{_⊎_, inl, inr}
 use mathlib.Core.List.{List, [], _∷_}
-use Prim.Native.Nat.{suc, _<_}
+use Prim.Native.Nat.{ℕ, zero, suc, _<_}
 use native.Mathlib.Omega.{arith}
-use lib.ListN.{length}
+use native.Mathlib.Nat.{le-of-suc-le-suc}
+use lib.ListN.{length, getD, set}
 use lib.Dec.{T}
-use Rattle.rules.specs.Decisions.{Decision, Open, Kept, Dropped, Agrees, open-items}
+use Rattle.rules.specs.Decisions.{Decision, Open, Kept, Dropped, Agrees, open-items, is-open}
 use Rattle.rules.specs.Best.{wins-tie}
 
 -- The decision m for the first open item.
@@ -61,6 +62,16 @@ length-decide-next m [] = refl
 length-decide-next m (Open ∷ d) = refl
 length-decide-next m (Kept ∷ d) = ap suc (length-decide-next m d)
 length-decide-next m (Dropped ∷ d) = ap suc (length-decide-next m d)
+
+-- The first open item stands at place k: to decide it is to set that place.
+pub decide-next-sets : (m : Decision) (d : List Decision) (k : ℕ) → k < length d → T (is-open (getD d k Open)) → ((j : ℕ) → j < k → T (is-open (getD d j Open)) → ⊥) → decide-next m d ≡ set d k m
+decide-next-sets m [] k l o none = absurd (omega arith)
+decide-next-sets m (Open ∷ d) zero l o none = refl
+decide-next-sets m (Kept ∷ d) zero l o none = absurd o
+decide-next-sets m (Dropped ∷ d) zero l o none = absurd o
+decide-next-sets m (Open ∷ d) (suc k) l o none = absurd (none 0 (omega arith) tt)
+decide-next-sets m (Kept ∷ d) (suc k) l o none = ap (λ t. Kept ∷ t) (decide-next-sets m d k (le-of-suc-le-suc l) o (λ j h. none (suc j) (omega arith)))
+decide-next-sets m (Dropped ∷ d) (suc k) l o none = ap (λ t. Dropped ∷ t) (decide-next-sets m d k (le-of-suc-le-suc l) o (λ j h. none (suc j) (omega arith)))
 
 -- What keeps the first open item wins over what drops it.
 pub keeping-wins-tie : (d : List Decision) (r s : List Bool) → 0 < open-items d → Agrees (decide-next Kept d) r → Agrees (decide-next Dropped d) s → T (wins-tie r s)

@@ -3,12 +3,11 @@ use mathlib.Core.Path.{_≡_, sym, subst}
 use mathlib.Core.Bool.{Bool}
 use mathlib.Core.Option.{Option, none, some}
 use mathlib.Core.List.{List}
-use Prim.Native.Nat.{ℕ, _+_, _≤_, _<_, min}
+use Prim.Native.Nat.{ℕ, _+_, _≤_, min}
 use native.Mathlib.Omega.{arith}
 use Rattle.rules.specs.Decisions.{Decision, Agrees}
 use Rattle.rules.specs.Best.{Best}
-use Rattle.rules.specs.laws.search.Finds.{within-0-is-best, SoFar, holds, Finds, nothing, better, finds-cut}
-use Rattle.rules.specs.laws.search.Valued.{Worth, Valued, value-best}
+use Rattle.rules.specs.laws.search.Finds.{within-0-is-best, SoFar, holds, Finds, nothing, better}
 
 -- Nothing found yet, and a choice counts from the value g on.
 abbrev pub from-floor : ℕ → SoFar
@@ -30,15 +29,6 @@ module _ (worth : List Bool → ℕ) (Allowed : List Bool → Type 0) where
   pub floor-best : (d : List Decision) (so-far now : SoFar) (r : List Bool) → Allowed r → Agrees d r → so-far .goal ≤ worth r → Finds worth Allowed 0 d so-far now → FoundBest d now
   floor-best d so-far now r o a l (nothing e h) = let k = h r o a in absurd (omega arith)
   floor-best d so-far now r o a l (better b e w n) = record { which = b; found = e; best = within-0-is-best worth b n }
-
-  -- Once the best value is found, all the rest is needless: the search may stop.
-  pub finds-enough : (tolerance : ℕ) (d : List Decision) (so-far : SoFar) (w : ℕ) → ((r : List Bool) → Allowed r → worth r ≤ w) → w < so-far .goal → Finds worth Allowed tolerance d so-far so-far
-  finds-enough tolerance d so-far w h l = finds-cut worth Allowed tolerance d so-far w (λ r o a. h r o) (omega arith)
-
-  -- VALUE FIRST, THEN THE ANSWER: a pass for the value in any order, then a search in slot order from that value.
-  pub two-passes : (stop floor w : ℕ) (d : List Decision) (now : SoFar) → w < stop → Worth worth Allowed d floor → Valued worth Allowed stop floor d w → Finds worth Allowed 0 d (from-floor w) now → FoundBest d now
-  two-passes stop floor w d now l g p f = let b = value-best worth Allowed stop floor w d l g p in
-      let y = b .reached in let e = y .is in floor-best d (from-floor w) now (y .which) (y .allowed) (y .agrees) (omega arith) f
 
   -- ---- any tolerance
   -- b is a choice, none is worth more than the ceiling, and the ceiling is within the tolerance of b.
@@ -68,7 +58,3 @@ module _ (worth : List Bool → ℕ) (Allowed : List Bool → Type 0) where
       (ceiling-holds tolerance root d b o a h (λ r x y. let l = k r x y in omega arith))
   tolerance-pass-from tolerance root d z b now o a h (better c e w n) = subst (λ i. Within tolerance d (answer z (i .find)) (min root (worth (answer z (i .find)) + tolerance))) (sym e)
       (ceiling-holds tolerance root d c (n .allowed .0) (n .allowed .1) h (λ r x y. n .top r (x, y)))
-
-  -- At tolerance 0 the best's own value is the ceiling.
-  pub best-within : (d : List Decision) (b : List Bool) → Best worth (λ r. Allowed r × Agrees d r) b → Within 0 d b (worth b)
-  best-within d b m = record { allowed = m .allowed .0; agrees = m .allowed .1; top = λ r o a. m .top r (o, a); near = omega arith }

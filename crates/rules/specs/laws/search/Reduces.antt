@@ -32,9 +32,6 @@ module _ (worth : List Bool → ℕ) (Allowed : List Bool → Type 0) (tolerance
   pub above-itself : (f : List Decision) (r : List Bool) → Allowed r → Agrees f r → Above f r
   above-itself f r o a = record { other = r; allowed = o; agrees = a; value-of = omega arith; order = inl refl }
 
-  pub reduces-refl : (goal : ℕ) (d : List Decision) → Reduces goal d d
-  reduces-refl goal d = record { from = λ r a. a; to = λ r o a. inr (above-itself d r o a) }
-
   -- One reduction after another.
   pub reduces-then : (goal : ℕ) (d f h : List Decision) → Reduces goal d f → Reduces goal f h → Reduces goal d h
   reduces-then goal d f h p q = record { from = λ r a. p .from r (q .from r a); to = λ r o a. go r (p .to r o a) }
@@ -109,3 +106,11 @@ module _ (worth : List Bool → ℕ) (Allowed : List Bool → Type 0) (tolerance
       go r ok a (inl t) = above-itself (set d k Kept) r ok (agrees-decided Kept d r k a t)
       go r ok a (inr n) = let m = not-T (getD r k false) n in let (x, w) = h r ok a m in let e = size r ok a in
           record { other = set r k true; allowed = x; agrees = agrees-set d r k a; value-of = w; order = inr (inl (adding-wins-tie r k (omega arith) m)) }
+
+-- What is needless at a low goal is needless at a higher one.
+pub reduces-weaker : (worth : List Bool → ℕ) (Allowed : List Bool → Type 0) (goal tolerance want : ℕ) (d f : List Decision) → want ≤ goal + tolerance → Reduces worth Allowed 0 want d f → Reduces worth Allowed tolerance goal d f
+reduces-weaker worth Allowed goal tolerance want d f l p = record { from = p .from; to = λ r o a. go r (p .to r o a) }
+  where
+    go : (r : List Bool) → (worth r < want + 0) ⊎ Above worth Allowed 0 f r → (worth r < goal + tolerance) ⊎ Above worth Allowed tolerance f r
+    go r (inl k) = inl (omega arith)
+    go r (inr b) = inr (record { other = b .other; allowed = b .allowed; agrees = b .agrees; value-of = b .value-of; order = b .order })

@@ -86,22 +86,10 @@ module _ (worth : List Bool → ℕ) (Allowed : List Bool → Type 0) where
     pub reached : Worth d w
     pub top : (r : List Bool) → Allowed r → Agrees d r → worth r ≤ w
 
-  pub best-value-unique : (d : List Decision) (w x : ℕ) → BestValue d w → BestValue d x → w ≡ x
-  best-value-unique d w x p q = let a = q .top (p .reached .which) (p .reached .allowed) (p .reached .agrees) in let b = p .top (q .reached .which) (q .reached .allowed) (q .reached .agrees) in
-      let e = p .reached .is in let f = q .reached .is in omega arith
-
   -- From a floor that is some choice's value, with nothing to stop at: the best value.
   pub value-best : (stop floor w : ℕ) (d : List Decision) → w < stop → Worth d floor → Valued stop floor d w → BestValue d w
   value-best stop floor w d l g p = record { reached = from (p .reached); top = p .top l }
     where
       from : (w ≡ floor) ⊎ Worth d w → Worth d w
       from (inl e) = subst (λ z. Worth d z) (sym e) g
-      from (inr y) = y
-
-  -- From the floor 0, where something agrees: the best value too.
-  pub value-best-0 : (stop w : ℕ) (d : List Decision) (r : List Bool) → Allowed r → Agrees d r → w < stop → Valued stop 0 d w → BestValue d w
-  value-best-0 stop w d r o a l p = record { reached = from (p .reached); top = p .top l }
-    where
-      from : (w ≡ 0) ⊎ Worth d w → Worth d w
-      from (inl e) = let k = p .top l r o a in record { which = r; allowed = o; agrees = a; is = omega arith }
       from (inr y) = y

@@ -1,0 +1,4 @@
+pub mod Transposed
+pub mod Lent
+pub mod Held
+pub mod laws

@@ -1,0 +1,3 @@
+pub mod Nought
+pub mod Transposed
+pub mod Held

@@ -1,0 +1,7 @@
+pub mod Items
+pub mod Chain
+pub mod Taken
+pub mod Charges
+pub mod Started
+pub mod Shown
+pub mod Opened

@@ -1,0 +1,113 @@
+// One charge: the least that a member's consequences hold, taken from the consequences of every member.
+use crate::chain::all_named;
+use crate::chain::closed;
+use crate::taking::held_by;
+use crate::taking::take;
+ghost use Prim.Native.Nat.{ℕ, _+_, _-_, _≤_, _<_};
+ghost use lib.ListN.{length};
+ghost use Rattle.graph.specs.Graph.{EndsAreSlots};
+ghost use Rattle.charge.specs.Items.{AllNamed};
+ghost use Rattle.charge.specs.Taken.{LeftIn};
+ghost use Rattle.charge.specs.Charges.{Measured, Gave, ChargedAs};
+
+// What the members hold, and the least of it.
+pub struct Measure {
+    pub least: u32,
+    pub was: [u32; 64],
+}
+
+pub fn measure_all(
+    first: &[u8],
+    second: &[u8],
+    n: usize,
+    m: usize,
+    options: &[u32],
+    orderings: &[u32],
+    chain: &[u8],
+    len: usize,
+) -> Measure
+    requires { ⌜ EndsAreSlots n m (now first) (now second) × AllNamed (now chain) len n m × (len ≤ length (now chain)) × (len ≤ 64) × LeftIn n m (now options) (now orderings) ⌝ }
+    ensures { λ r. ⌜ Measured (now (first .entry)) (now (second .entry)) n m (now (options .entry)) (now (orderings .entry)) (now (chain .entry)) len (r .least) (r .was) × (r .least ≤ 4259775) ⌝ }
+{
+    let mut was: [u32; 64] = [0; 64];
+    let mut least: u32 = 4259775;
+    let mut p: usize = 0;
+    while p < len {
+        let x = chain[p];
+        let h = held_by(first, second, n, m, options, orderings, x);
+        was[p] = h;
+        if h < least {
+            least = h;
+        }
+        p += 1;
+    }
+    Measure {
+        least: least,
+        was: was,
+    }
+}
+
+// Each member's consequences give e in all: what others took from them counts.
+pub fn take_all(
+    first: &[u8],
+    second: &[u8],
+    n: usize,
+    m: usize,
+    options: &mut [u32],
+    orderings: &mut [u32],
+    chain: &[u8],
+    len: usize,
+    e: u32,
+    was: [u32; 64],
+)
+    requires { ⌜ EndsAreSlots n m (now first) (now second) × AllNamed (now chain) len n m × (len ≤ length (now chain)) × (len ≤ 64) × LeftIn n m (now options) (now orderings) ⌝ }
+    requires { ⌜ Measured (now first) (now second) n m (now options) (now orderings) (now chain) len e was × (e ≤ 4259775) ⌝ }
+    ensures { λ _. ⌜ Gave (now (first .entry)) (now (second .entry)) n m (now (chain .entry)) e len (now (options .entry)) (now (orderings .entry)) (now (options .exit)) (now (orderings .exit)) ⌝ }
+{
+    let mut q: usize = 0;
+    while q < len {
+        let x = chain[q];
+        let h = held_by(first, second, n, m, &*options, &*orderings, x);
+        let w = was[q];
+        if w < h + e {
+            take(first, second, n, m, options, orderings, x, h + e - w);
+        }
+        q += 1;
+    }
+}
+
+// The chain is checked again, and only then is anything taken: whoever found it need promise nothing. What is charged comes back.
+pub fn charge(
+    known: &[u32],
+    first: &[u8],
+    second: &[u8],
+    n: usize,
+    m: usize,
+    chain: &[u8],
+    len: usize,
+    options: &mut [u32],
+    orderings: &mut [u32],
+) -> u32
+    requires { ⌜ EndsAreSlots n m (now first) (now second) × (n ≤ length (now known)) × (len ≤ length (now chain)) × LeftIn n m (now options) (now orderings) ⌝ }
+    ensures { λ r. ⌜ ChargedAs (now (known .entry)) (now (first .entry)) (now (second .entry)) n m (now (chain .entry)) len r (now (options .entry)) (now (orderings .entry)) (now (options .exit)) (now (orderings .exit)) ⌝ }
+{
+    if len == 0 {
+        return 0;
+    }
+    if len > 64 {
+        return 0;
+    }
+    let named = all_named(chain, len, n, m);
+    if !named {
+        return 0;
+    }
+    let closes = closed(known, first, second, n, m, chain, len);
+    if !closes {
+        return 0;
+    }
+    let t = measure_all(first, second, n, m, &*options, &*orderings, chain, len);
+    let e = t.least;
+    let was = t.was;
+    take_all(first, second, n, m, options, orderings, chain, len, e, was);
+    e
+}

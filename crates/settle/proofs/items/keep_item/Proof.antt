@@ -1,0 +1,31 @@
+-- One set has one slot more, by the item's number.
+use borrow.Author.Needs.{needs}
+use Rattle.settle.proofs.items.keep_item.Statement.{statement}
+use Rattle.settle.proofs.items.keep_item.Tie as tie
+use Rattle.settle.proofs.items.keep_item.Reads as reads
+use Rattle.settle.proofs.items.keep_item.Lts as lts
+use Rattle.rows.proofs.put.Reads as put-reads
+use Rattle.rows.proofs.put64.Reads as put64-reads
+use borrow.Author.Tests.{lt-ltb, le-ltb}
+use Rattle.settle.specs.Sets.{with-item-kept}
+
+-- src/items.rt:26:9
+put-requires : tie.Need-put-requires
+put-requires c κs = search needs
+
+-- src/items.rt:28:9
+put64-requires : tie.Need-put64-requires
+put64-requires c κs = search needs
+
+-- src/items.rt:20:1
+returns : tie.Need-returns
+unfolding with-item-kept
+returns c = rw (lt-ltb _ _ (c .before .if1 .taken), c .put .ensures)
+
+-- src/items.rt:20:1
+returns-2 : tie.Need-returns-2
+unfolding with-item-kept
+returns-2 c = rw (le-ltb _ _ (c .before .if1 .left), c .put64 .ensures)
+
+pub keep-item-spec : {M : Type 1} → statement M
+keep-item-spec = tie.close (tie.spec put-requires put64-requires returns returns-2)

@@ -1,0 +1,5 @@
+pub mod Arrays
+pub mod Sets
+pub mod Keeping
+pub mod Settled
+pub mod laws

@@ -11,8 +11,10 @@ use Rattle.rules.specs.laws.search.Reduces.{Reduces}
 use Rattle.rows.specs.Bits.{has}
 use Rattle.rows.specs.Sets.{Holds}
 use Rattle.given.specs.declared.sets.Given.{Given}
+use Rattle.forced.specs.declared.forcing.Forced.{Forced}
+use Rattle.half.specs.declared.opened.Half.{Half}
 use Rattle.settle.specs.Arrays.{ShowsSheet}
-use Rattle.settle.specs.Sets.{decisions-of, Apart}
+use Rattle.settle.specs.Sets.{decisions-of, Apart, sets-of}
 use Rattle.settle.specs.declared.settling.Settled.{Settled}
 use Rattle.settle.specs.declared.settling.Step.{Step}
 
@@ -38,3 +40,7 @@ pub record StepAs (n m : ℕ) (firsts seconds rows ws bs : List ℕ) (want : ℕ
   pub apart : x .more ≡ true → Apart n m (x .settled .given)
   pub fewer : x .more ≡ true → open-items (decisions-of n m (x .settled .given)) < open-items (decisions-of n m g)
   pub reduces : x .more ≡ true → (s : Lines) → ShowsSheet s n m firsts seconds rows ws bs → Reduces (value-of s) (ConsistentRelaxation s) 0 want (decisions-of n m g) (decisions-of n m (x .settled .given))
+
+-- The forced decisions, and no other round.
+abbrev pub left-as-forced : Forced → Half → Step
+left-as-forced f h = record { settled = record { over = false; given = sets-of f; «open_options» = h .«open_options»; «open_orderings» = h .«open_orderings»; lower = h .lower }; more = false }

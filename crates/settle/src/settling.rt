@@ -4,13 +4,14 @@ use bound::bound;
 use chains::transposed;
 use forced::Forced;
 use given::Given;
+use half::Half;
 ghost use mathlib.Core.Path.{_≡_};
 ghost use mathlib.Core.Bool.{true, false};
 ghost use Prim.Native.Nat.{ℕ, _+_, _≤_, _<_};
 ghost use lib.ListN.{length};
 ghost use Rattle.settle.specs.Arrays.{Arrays};
 ghost use Rattle.settle.specs.Sets.{Apart};
-ghost use Rattle.settle.specs.Settled.{SettledAs, StepAs};
+ghost use Rattle.settle.specs.Settled.{left-as-forced, SettledAs, StepAs};
 
 // Whether nothing here is worth what is wanted; otherwise the decisions that are left, what they leave open and what they keep in weight.
 pub struct Settled {
@@ -50,6 +51,36 @@ fn enough(upper: u32, want: u32) -> u32
     if want == 0 { 0 } else { upper + 1 - want }
 }
 
+// Whether nothing is open any more.
+fn is_decided(h: Half) -> bool {
+    if h.open_options != 0 {
+        return false;
+    }
+    h.open_orderings == 0
+}
+
+// The forced decisions, and nothing besides.
+fn as_forced(f: Forced, h: Half) -> Step
+    ensures { λ r. ⌜ r ≡ left-as-forced f h ⌝ }
+{
+    let given = Given {
+        kept: f.kept,
+        dropped: f.dropped,
+        kept_orderings: f.kept_orderings,
+        dropped_orderings: f.dropped_orderings,
+    };
+    Step {
+        settled: Settled {
+            over: false,
+            given: given,
+            open_options: h.open_options,
+            open_orderings: h.open_orderings,
+            lower: h.lower,
+        },
+        more: false,
+    }
+}
+
 // What is known before what: a full table.
 fn rows_of(f: Forced) -> [u32; 32]
     ensures { λ r. ⌜ (r ≡ f .known) × (length r ≡ 32) ⌝ }
@@ -80,6 +111,9 @@ fn one_round(
     let h = half::half_decided(f, weights, ordering_weights, n, m);
     if h.upper < want {
         return nothing_left(g);
+    }
+    if is_decided(h) {
+        return as_forced(f, h);
     }
     let known = rows_of(f);
     let after = transposed(&known, n);

@@ -18,9 +18,10 @@ pub fn by_slot(s: Sheet) -> BySlot
     let lines = s.catalogue_lines;
     let n = s.option_count;
     let m = s.ordering_count;
-    let rows = catalogue::catalogue_rows(&s.letters, &s.befores, &s.afters, lines, &s.numbers, n);
-    let firsts = slots::slots_of(&s.numbers, &s.firsts, n, m);
-    let seconds = slots::slots_of(&s.numbers, &s.seconds, n, m);
+    let table = slots::slot_table(&s.numbers, n);
+    let rows = catalogue::catalogue_rows(&s.letters, &s.befores, &s.afters, lines, &table, n);
+    let firsts = slots::slots_of(&table, &s.firsts, m);
+    let seconds = slots::slots_of(&table, &s.seconds, m);
     BySlot {
         rows: rows,
         firsts: firsts,

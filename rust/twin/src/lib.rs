@@ -15,7 +15,6 @@ mod decisions;
 mod forced;
 mod lent;
 mod limits;
-pub mod quick;
 pub mod random;
 mod reading;
 mod record;

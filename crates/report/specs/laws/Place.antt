@@ -1,4 +1,4 @@
--- The place of a refused sheet lies within the sheet, so its numbers are short.
+-- The place of a refused sheet lies within the sheet, so its numbers have sixteen bits.
 use Prim.Native.Nat.{ℕ, zero, suc, _+_, _-_, _≤_, _<_}
 use mathlib.Core.Path.{ap, _∙_}
 use mathlib.Core.Bool.{Bool, true, false, cond}
@@ -111,14 +111,14 @@ line-ends-few (b ∷ l) = go (eqb b 10) (line-ends-few l)
     go true h = omega arith
     go false h = omega arith
 
-told-short : {text : List ℕ} {o : Reading} → Told text o → (line-of (o .answer) < 1000000) × (column-of (o .answer) < 1000000)
+told-short : {text : List ℕ} {o : Reading} → Told text o → (line-of (o .answer) < 65536) × (column-of (o .answer) < 65536)
 told-short (sheet-too-long h) = (omega arith, omega arith)
 told-short (no-trailer h g) = (omega arith, omega arith)
 told-short (trailer-bad front f u t long ends bad) = ((let a = ap length (ends .whole) ∙ length-append front _ in let b = line-ends-few front in omega arith), omega arith)
 told-short (too-many-catalogue-lines front f u t long ends good many) = (omega arith, omega arith)
-told-short (too-many-options front f u t long ends good few many) = ((let a = ends .five-digits .0 in omega arith), omega arith)
-told-short (too-many-orderings front f u t long ends good few fewer many) = ((let a = ends .five-digits .1 .0 in omega arith), omega arith)
-told-short (lines front f u t long ends good a b c rest) = let z = lines-short rest long in let d = ends .five-digits .1 .1 in (omega (arith, z .0, d), omega (arith, z .1))
+told-short (too-many-options front f u t long ends good few many) = (omega arith, omega arith)
+told-short (too-many-orderings front f u t long ends good few fewer many) = (omega arith, omega arith)
+told-short (lines front f u t long ends good a b c rest) = let z = lines-short rest long in (omega (arith, z .0), omega (arith, z .1))
 
-pub place-is-short : (text : List ℕ) → (line-of (read-sheet text .answer) < 1000000) × (column-of (read-sheet text .answer) < 1000000)
+pub place-is-short : (text : List ℕ) → (line-of (read-sheet text .answer) < 65536) × (column-of (read-sheet text .answer) < 65536)
 place-is-short text = told-short (told text)

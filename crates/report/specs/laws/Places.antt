@@ -58,7 +58,7 @@ slots-are-few (suc n) p = go (p n) (slots-are-few n p)
     go false h = omega arith
 
 -- ---- the places that `sequence` returns, as they are printed
-place-at : (k : ℕ) (l : List ℕ) (i : ℕ) → i < k → getD (places-of k l) i (number 0) .0 ≡ getD l i 0
+pub place-at : (k : ℕ) (l : List ℕ) (i : ℕ) → i < k → getD (places-of k l) i (number 0) .0 ≡ getD l i 0
 unfolding places-of
 place-at zero l i h = absurd (omega arith)
 place-at (suc k) [] zero h = refl

@@ -28,7 +28,7 @@ use Rattle.bound.specs.declared.charging.Charged.{Charged}
 use Rattle.settle.specs.Arrays.{ShowsSheet, Arrays}
 use Rattle.settle.specs.Sets.{decisions-of, Apart, sets-of}
 use Rattle.settle.specs.Keeping.{KeptMore}
-use Rattle.settle.specs.Settled.{SettledAs, StepAs}
+use Rattle.settle.specs.Settled.{left-as-forced, SettledAs, StepAs}
 use Rattle.settle.specs.laws.Shown.{forced-shown, option-stands, ordering-stands}
 use Rattle.settle.specs.laws.Apart.{forced-apart}
 use Rattle.settle.specs.laws.Forcing.{size, fine, over-settles, forced-settles}
@@ -54,6 +54,11 @@ step-ended n m firsts seconds rows ws bs want g x e w = record { settled = λ _.
   where
     never : x .more ≡ true → ⊥
     never q = subst T (sym q ∙ e) tt
+
+pub step-forced : (n m : ℕ) (firsts seconds rows ws bs : List ℕ) (arrays : Arrays n m firsts seconds rows ws bs) (want : ℕ) (g : Given) (apart : Apart n m g) (f : Forced) (by : ForcedBy n m firsts seconds rows g f)
+    (h : Half) (half : HalfDecidedAs f n m ws bs h) (e : f .contradiction ≡ false) {x : Step} → x ≡ left-as-forced f h → StepAs n m firsts seconds rows ws bs want g x
+step-forced n m firsts seconds rows ws bs arrays want g apart f by h half e q = subst (StepAs n m firsts seconds rows ws bs want g) (sym q)
+    (step-ended n m firsts seconds rows ws bs want g (left-as-forced f h) refl (forced-settles n m firsts seconds rows ws bs arrays want g apart f by h half e))
 
 -- ---- after the forced decisions
 module _ (n m : ℕ) (firsts seconds rows ws bs : List ℕ) (arrays : Arrays n m firsts seconds rows ws bs) (want : ℕ) (g : Given) (apart : Apart n m g) (f : Forced) (by : ForcedBy n m firsts seconds rows g f)

@@ -1,13 +1,9 @@
 //! Sheets with too many items for the twin to look at every choice. It judges the answer instead:
 //! consistent, its value right, no better one within two changes; then it writes the report again.
-//!
-//! A search may take very long on large sheets whose lines fight. So these are of up to 30 items,
-//! or of the kind that it ends on quickly (`twin::quick`).
 
 use crate::tally::Tally;
 use crate::{expected, lent, seeds, shown};
-use twin::quick::quick_sheet;
-use twin::random::{Random, small_sheet};
+use twin::random::{Random, full_sheet, small_sheet};
 use twin::{Answer, Decision, Decisions, MOST_ENUMERATED, Record, Sheet};
 use wharftoken::raw;
 
@@ -51,7 +47,7 @@ fn read_back(sheet: &Sheet, report: &str) -> Option<Answer> {
 }
 
 /// Judges the report on a sheet; the value that it shows.
-fn reported(seed: u64, sheet: &Sheet) -> u32 {
+pub fn reported(seed: u64, sheet: &Sheet) -> u32 {
     let report = lent::report(&twin::write(sheet), 1024).expect("a report fits");
     let text = String::from_utf8_lossy(&report);
     let answer = read_back(sheet, &text).expect("a report on an accepted sheet");
@@ -100,14 +96,10 @@ fn sheets_of_up_to_30_items() {
 }
 
 #[test]
-fn large_sheets_that_a_search_ends_on_quickly() {
-    let mut tally = Tally::new("large sheets");
-    for seed in seeds("large sheets", 410_001..410_501) {
-        let sheet = quick_sheet(seed);
-        judge(&mut tally, seed, &sheet);
-        tally.count("32 options", sheet.options.len() == 32);
-        tally.count("more than 20 orderings", sheet.orderings.len() > 20);
-        tally.count("512 catalogue lines", sheet.catalogue.len() == 512);
+fn full_sheets() {
+    let mut tally = Tally::new("full sheets");
+    for seed in seeds("full sheets", 410_001..410_301) {
+        judge(&mut tally, seed, &full_sheet(seed));
     }
-    tally.assert_each(6, 5);
+    tally.assert_each(3, 5);
 }

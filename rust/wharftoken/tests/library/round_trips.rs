@@ -1,7 +1,6 @@
 //! What is read is written back byte for byte; what is written reads back as the same record.
 
 use crate::{lent, seeds};
-use twin::quick::quick_sheet;
 use twin::random::{full_sheet, longest_sheet, small_sheet};
 use twin::{Record, Sheet};
 use wharftoken::raw;
@@ -30,7 +29,6 @@ fn small_sheets() {
 fn full_sheets() {
     for seed in seeds("round trips of full sheets", 563_001..563_501) {
         there_and_back(seed, &full_sheet(seed));
-        there_and_back(seed, &quick_sheet(seed));
     }
 }
 

@@ -1,7 +1,7 @@
 //! Texts of every kind, read and reported on.
 
 use crate::tally::Tally;
-use crate::{expected, lent, seeds};
+use crate::{expected, large, lent, seeds};
 use twin::random::{self, Random};
 use twin::{Refused, Sheet, damage};
 use wharftoken::raw;
@@ -91,21 +91,24 @@ fn truncated_sheets() {
     assert!(numbers[2] > 2000, "most have no trailer");
 }
 
-/// Of full sheets those are reported on that are refused: on what is accepted a search may take
-/// very long, and the twin has no best for it. Both are read.
+/// The twin has no best for a full sheet that is still accepted; it judges the report instead.
 #[test]
 fn full_sheets_damaged() {
     let mut tally = Tally::new("full sheets, damaged");
     for seed in seeds("full sheets, damaged", 400_001..401_001) {
         let text = damage::damaged(seed, &random::full_sheet(seed));
-        let refused = twin::read(&text).is_err();
-        if refused {
-            assert_same(seed, &text);
-        } else {
-            assert_eq!(assert_read(seed, &text), 0, "seed {seed}");
+        let sheet = twin::read(&text);
+        match &sheet {
+            Ok(sheet) => {
+                assert_eq!(assert_read(seed, &text), 0, "seed {seed}");
+                large::reported(seed, sheet);
+            }
+            Err(_) => {
+                assert_same(seed, &text);
+            }
         }
-        tally.count("refused", refused);
-        tally.count("accepted", !refused);
+        tally.count("refused", sheet.is_err());
+        tally.count("accepted", sheet.is_ok());
     }
     tally.assert_each(2, 50);
 }

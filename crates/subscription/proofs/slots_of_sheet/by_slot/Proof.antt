@@ -1,25 +1,74 @@
 -- The record's rule gives what each part asks for; the law `shown-by` puts the parts together.
-use mathlib.Core.Path.{_≡_}
 use native.Mathlib.Omega.{arith}
 use borrow.Author.Needs.{needs}
-use lib.ListN.{length}
+use Rattle.sheet.specs.Recorded.{Recorded}
 use Rattle.sheet.proofs.ObeyLaws.{passes-recorded}
 use Rattle.subscription.specs.laws.Shown.{numbers-differing, shown-by}
 use Rattle.subscription.proofs.slots_of_sheet.by_slot.Statement.{statement}
 use Rattle.subscription.proofs.slots_of_sheet.by_slot.Tie as tie
 
+obeys : (c : tie.Start) → Recorded (c .args .t1)
+obeys c = passes-recorded (c .args .t1) (record {
+  letters = search (needs, c .good);
+  befores = search (needs, c .good);
+  afters = search (needs, c .good);
+  numbers = search (needs, c .good);
+  weights = search (needs, c .good);
+  firsts = search (needs, c .good);
+  seconds = search (needs, c .good);
+  «ordering_weights» = search (needs, c .good);
+}) (c .pre)
+
+slot-table-requires : tie.Need-slot-table-requires
+slot-table-requires c κs = let R = obeys (c .before .before .before) in (numbers-differing _ R, R .few-options)
+
+slice-aggregate-catalogue-rows : tie.Need-slice-aggregate-catalogue-rows
+slice-aggregate-catalogue-rows c = search needs
+
 catalogue-rows-requires : tie.Need-catalogue-rows-requires
-catalogue-rows-requires c κs = let size-letters : length (c .before .before .before .before .before .before .before .before .before .args .t1 .letters) ≡ 512 = search (needs, c .before .before .before .before .before .before .before .before .before .good) in let size-befores : length (c .before .before .before .before .before .before .before .before .before .args .t1 .befores) ≡ 512 = search (needs, c .before .before .before .before .before .before .before .before .before .good) in let size-afters : length (c .before .before .before .before .before .before .before .before .before .args .t1 .afters) ≡ 512 = search (needs, c .before .before .before .before .before .before .before .before .before .good) in let size-numbers : length (c .before .before .before .before .before .before .before .before .before .args .t1 .numbers) ≡ 32 = search (needs, c .before .before .before .before .before .before .before .before .before .good) in let size-weights : length (c .before .before .before .before .before .before .before .before .before .args .t1 .weights) ≡ 32 = search (needs, c .before .before .before .before .before .before .before .before .before .good) in let size-firsts : length (c .before .before .before .before .before .before .before .before .before .args .t1 .firsts) ≡ 64 = search (needs, c .before .before .before .before .before .before .before .before .before .good) in let size-seconds : length (c .before .before .before .before .before .before .before .before .before .args .t1 .seconds) ≡ 64 = search (needs, c .before .before .before .before .before .before .before .before .before .good) in let size-ordering-weights : length (c .before .before .before .before .before .before .before .before .before .args .t1 .«ordering_weights») ≡ 64 = search (needs, c .before .before .before .before .before .before .before .before .before .good) in let R = passes-recorded (c .before .before .before .before .before .before .before .before .before .args .t1) (record { letters = size-letters; befores = size-befores; afters = size-afters; numbers = size-numbers; weights = size-weights; firsts = size-firsts; seconds = size-seconds; «ordering_weights» = size-ordering-weights }) (c .before .before .before .before .before .before .before .before .before .pre) in let k = R .few-catalogue in ((R .few-options, numbers-differing (c .before .before .before .before .before .before .before .before .before .args .t1) R), (omega arith, omega arith, omega arith))
+catalogue-rows-requires c κs =
+    let R = obeys (c .before .before .before .before .before .before .before .before .before .before .before .before) in
+    let k = R .few-catalogue in
+    let L = R .lengths in
+    ((R .few-options, c .before .before .before .before .before .before .before .before .slot-table .ensures .size), (omega arith, omega arith, omega arith))
+
+slice-aggregate-slots-of : tie.Need-slice-aggregate-slots-of
+slice-aggregate-slots-of c = search needs
 
 slots-of-requires : tie.Need-slots-of-requires
-slots-of-requires c κs = let size-letters : length (c .before .before .before .before .before .before .before .before .before .before .before .before .before .before .before .args .t1 .letters) ≡ 512 = search (needs, c .before .before .before .before .before .before .before .before .before .before .before .before .before .before .before .good) in let size-befores : length (c .before .before .before .before .before .before .before .before .before .before .before .before .before .before .before .args .t1 .befores) ≡ 512 = search (needs, c .before .before .before .before .before .before .before .before .before .before .before .before .before .before .before .good) in let size-afters : length (c .before .before .before .before .before .before .before .before .before .before .before .before .before .before .before .args .t1 .afters) ≡ 512 = search (needs, c .before .before .before .before .before .before .before .before .before .before .before .before .before .before .before .good) in let size-numbers : length (c .before .before .before .before .before .before .before .before .before .before .before .before .before .before .before .args .t1 .numbers) ≡ 32 = search (needs, c .before .before .before .before .before .before .before .before .before .before .before .before .before .before .before .good) in let size-weights : length (c .before .before .before .before .before .before .before .before .before .before .before .before .before .before .before .args .t1 .weights) ≡ 32 = search (needs, c .before .before .before .before .before .before .before .before .before .before .before .before .before .before .before .good) in let size-firsts : length (c .before .before .before .before .before .before .before .before .before .before .before .before .before .before .before .args .t1 .firsts) ≡ 64 = search (needs, c .before .before .before .before .before .before .before .before .before .before .before .before .before .before .before .good) in let size-seconds : length (c .before .before .before .before .before .before .before .before .before .before .before .before .before .before .before .args .t1 .seconds) ≡ 64 = search (needs, c .before .before .before .before .before .before .before .before .before .before .before .before .before .before .before .good) in let size-ordering-weights : length (c .before .before .before .before .before .before .before .before .before .before .before .before .before .before .before .args .t1 .«ordering_weights») ≡ 64 = search (needs, c .before .before .before .before .before .before .before .before .before .before .before .before .before .before .before .good) in let R = passes-recorded (c .before .before .before .before .before .before .before .before .before .before .before .before .before .before .before .args .t1) (record { letters = size-letters; befores = size-befores; afters = size-afters; numbers = size-numbers; weights = size-weights; firsts = size-firsts; seconds = size-seconds; «ordering_weights» = size-ordering-weights }) (c .before .before .before .before .before .before .before .before .before .before .before .before .before .before .before .pre) in let k = R .few-orderings in ((numbers-differing (c .before .before .before .before .before .before .before .before .before .before .before .before .before .before .before .args .t1) R, R .few-options), (k, omega arith))
+slots-of-requires c κs =
+    let R = obeys (c .before .before .before .before .before .before .before .before .before .before .before .before .before .before .before .before .before) in
+    let k = R .few-orderings in
+    let L = R .lengths in
+    (c .before .before .before .before .before .before .before .before .before .before .before .before .before .slot-table .ensures .size, k, omega arith)
+
+slice-aggregate-slots-of-2 : tie.Need-slice-aggregate-slots-of-2
+slice-aggregate-slots-of-2 c = search needs
 
 slots-of-requires-2 : tie.Need-slots-of-requires-2
-slots-of-requires-2 c κs = let size-letters : length (c .before .before .before .before .before .before .before .before .before .before .before .before .before .before .before .before .before .before .before .before .before .args .t1 .letters) ≡ 512 = search (needs, c .before .before .before .before .before .before .before .before .before .before .before .before .before .before .before .before .before .before .before .before .before .good) in let size-befores : length (c .before .before .before .before .before .before .before .before .before .before .before .before .before .before .before .before .before .before .before .before .before .args .t1 .befores) ≡ 512 = search (needs, c .before .before .before .before .before .before .before .before .before .before .before .before .before .before .before .before .before .before .before .before .before .good) in let size-afters : length (c .before .before .before .before .before .before .before .before .before .before .before .before .before .before .before .before .before .before .before .before .before .args .t1 .afters) ≡ 512 = search (needs, c .before .before .before .before .before .before .before .before .before .before .before .before .before .before .before .before .before .before .before .before .before .good) in let size-numbers : length (c .before .before .before .before .before .before .before .before .before .before .before .before .before .before .before .before .before .before .before .before .before .args .t1 .numbers) ≡ 32 = search (needs, c .before .before .before .before .before .before .before .before .before .before .before .before .before .before .before .before .before .before .before .before .before .good) in let size-weights : length (c .before .before .before .before .before .before .before .before .before .before .before .before .before .before .before .before .before .before .before .before .before .args .t1 .weights) ≡ 32 = search (needs, c .before .before .before .before .before .before .before .before .before .before .before .before .before .before .before .before .before .before .before .before .before .good) in let size-firsts : length (c .before .before .before .before .before .before .before .before .before .before .before .before .before .before .before .before .before .before .before .before .before .args .t1 .firsts) ≡ 64 = search (needs, c .before .before .before .before .before .before .before .before .before .before .before .before .before .before .before .before .before .before .before .before .before .good) in let size-seconds : length (c .before .before .before .before .before .before .before .before .before .before .before .before .before .before .before .before .before .before .before .before .before .args .t1 .seconds) ≡ 64 = search (needs, c .before .before .before .before .before .before .before .before .before .before .before .before .before .before .before .before .before .before .before .before .before .good) in let size-ordering-weights : length (c .before .before .before .before .before .before .before .before .before .before .before .before .before .before .before .before .before .before .before .before .before .args .t1 .«ordering_weights») ≡ 64 = search (needs, c .before .before .before .before .before .before .before .before .before .before .before .before .before .before .before .before .before .before .before .before .before .good) in let R = passes-recorded (c .before .before .before .before .before .before .before .before .before .before .before .before .before .before .before .before .before .before .before .before .before .args .t1) (record { letters = size-letters; befores = size-befores; afters = size-afters; numbers = size-numbers; weights = size-weights; firsts = size-firsts; seconds = size-seconds; «ordering_weights» = size-ordering-weights }) (c .before .before .before .before .before .before .before .before .before .before .before .before .before .before .before .before .before .before .before .before .before .pre) in let k = R .few-orderings in ((numbers-differing (c .before .before .before .before .before .before .before .before .before .before .before .before .before .before .before .before .before .before .before .before .before .args .t1) R, R .few-options), (k, omega arith))
+slots-of-requires-2 c κs =
+    let R = obeys (c .before .before .before .before .before .before .before .before .before .before .before .before .before .before .before .before .before .before .before .before .before .before) in
+    let k = R .few-orderings in
+    let L = R .lengths in
+    (c .before .before .before .before .before .before .before .before .before .before .before .before .before .before .before .before .before .before .slot-table .ensures .size, k, omega arith)
 
 returns : tie.Need-returns
-returns c = let size-letters : length (c .before .before .before .before .before .before .before .before .before .before .before .before .before .before .before .before .before .before .before .before .before .before .args .t1 .letters) ≡ 512 = search (needs, c .before .before .before .before .before .before .before .before .before .before .before .before .before .before .before .before .before .before .before .before .before .before .good) in let size-befores : length (c .before .before .before .before .before .before .before .before .before .before .before .before .before .before .before .before .before .before .before .before .before .before .args .t1 .befores) ≡ 512 = search (needs, c .before .before .before .before .before .before .before .before .before .before .before .before .before .before .before .before .before .before .before .before .before .before .good) in let size-afters : length (c .before .before .before .before .before .before .before .before .before .before .before .before .before .before .before .before .before .before .before .before .before .before .args .t1 .afters) ≡ 512 = search (needs, c .before .before .before .before .before .before .before .before .before .before .before .before .before .before .before .before .before .before .before .before .before .before .good) in let size-numbers : length (c .before .before .before .before .before .before .before .before .before .before .before .before .before .before .before .before .before .before .before .before .before .before .args .t1 .numbers) ≡ 32 = search (needs, c .before .before .before .before .before .before .before .before .before .before .before .before .before .before .before .before .before .before .before .before .before .before .good) in let size-weights : length (c .before .before .before .before .before .before .before .before .before .before .before .before .before .before .before .before .before .before .before .before .before .before .args .t1 .weights) ≡ 32 = search (needs, c .before .before .before .before .before .before .before .before .before .before .before .before .before .before .before .before .before .before .before .before .before .before .good) in let size-firsts : length (c .before .before .before .before .before .before .before .before .before .before .before .before .before .before .before .before .before .before .before .before .before .before .args .t1 .firsts) ≡ 64 = search (needs, c .before .before .before .before .before .before .before .before .before .before .before .before .before .before .before .before .before .before .before .before .before .before .good) in let size-seconds : length (c .before .before .before .before .before .before .before .before .before .before .before .before .before .before .before .before .before .before .before .before .before .before .args .t1 .seconds) ≡ 64 = search (needs, c .before .before .before .before .before .before .before .before .before .before .before .before .before .before .before .before .before .before .before .before .before .before .good) in let size-ordering-weights : length (c .before .before .before .before .before .before .before .before .before .before .before .before .before .before .before .before .before .before .before .before .before .before .args .t1 .«ordering_weights») ≡ 64 = search (needs, c .before .before .before .before .before .before .before .before .before .before .before .before .before .before .before .before .before .before .before .before .before .before .good) in let R = passes-recorded (c .before .before .before .before .before .before .before .before .before .before .before .before .before .before .before .before .before .before .before .before .before .before .args .t1) (record { letters = size-letters; befores = size-befores; afters = size-afters; numbers = size-numbers; weights = size-weights; firsts = size-firsts; seconds = size-seconds; «ordering_weights» = size-ordering-weights }) (c .before .before .before .before .before .before .before .before .before .before .before .before .before .before .before .before .before .before .before .before .before .before .pre) in shown-by (c .before .before .before .before .before .before .before .before .before .before .before .before .before .before .before .before .before .before .before .before .before .before .args .t1) R _ _ _ (c .before .before .before .before .before .before .before .before .before .before .before .before .catalogue-rows .ensures) (c .before .before .before .before .before .before .slots-of .ensures) (c .slots-of2 .ensures)
+returns c =
+    let t = c .before .before .before .before .before .before .before .before .before .before .before .before .before .before .before .before .before .before .before .slot-table .ensures in
+    shown-by _ (obeys (c .before .before .before .before .before .before .before .before .before .before .before .before .before .before .before .before .before .before .before .before .before .before .before)) _ _ _
+    (c .before .before .before .before .before .before .before .before .before .before .catalogue-rows .ensures .of _ t)
+    (c .before .before .before .before .before .slots-of .ensures .of _ _ t)
+    (c .slots-of2 .ensures .of _ _ t)
 
 pub by-slot-spec : {M : Type 1} → statement M
 by-slot-spec =
-    tie.close (tie.spec catalogue-rows-requires slots-of-requires slots-of-requires-2 returns)
+    tie.close
+    (tie.spec
+    slot-table-requires
+    slice-aggregate-catalogue-rows
+    catalogue-rows-requires
+    slice-aggregate-slots-of
+    slots-of-requires
+    slice-aggregate-slots-of-2
+    slots-of-requires-2
+    returns)

@@ -1,0 +1,20 @@
+-- Two stores.
+use borrow.Author.Needs.{needs}
+use Rattle.wire.specs.laws.Put.{put-two}
+use Rattle.exports.proofs.searches.put_totals.Statement.{statement}
+use Rattle.exports.proofs.searches.put_totals.Tie as tie
+
+slice-write-out : tie.Need-slice-write-out
+slice-write-out c = search needs
+
+slice-write-out-2 : tie.Need-slice-write-out-2
+slice-write-out-2 c = search needs
+
+same-length : tie.Need-same-length
+same-length c = search needs
+
+returns : tie.Need-returns
+returns c = put-two _ _ _
+
+pub put-totals-spec : {M : Type 1} → statement M
+put-totals-spec = tie.close (tie.spec slice-write-out slice-write-out-2 same-length returns)

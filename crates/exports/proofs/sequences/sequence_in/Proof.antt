@@ -1,0 +1,48 @@
+-- Step by step from bytes to the answer.
+use borrow.Author.Needs.{needs}
+use mathlib.Core.Path.{refl}
+use Rattle.exports.specs.Sequence.{sequence-in}
+use Rattle.exports.proofs.sequences.sequence_in.Statement.{statement}
+use Rattle.exports.proofs.sequences.sequence_in.Tie as tie
+
+record-in-requires : tie.Need-record-in-requires
+record-in-requires c κs = search needs
+
+decisions-of-requires : tie.Need-decisions-of-requires
+decisions-of-requires c κs = search needs
+
+sequence-requires : tie.Need-sequence-requires
+sequence-requires c κs = search needs
+
+is-recorded-requires : tie.Need-is-recorded-requires
+is-recorded-requires c κs = search needs
+
+are-decisions-requires : tie.Need-are-decisions-requires
+are-decisions-requires c κs = search needs
+
+with-list-requires : tie.Need-with-list-requires
+with-list-requires c κs = search needs
+
+returns : tie.Need-returns
+unfolding sequence-in
+returns c =
+    rw (
+      c .before .with-list .ensures,
+      c .before .before .are-decisions .ensures,
+      c .before .before .before .is-recorded .ensures,
+      c .before .before .before .before .sequence .ensures,
+      c .before .before .before .before .before .decisions-of .ensures,
+      c .before .before .before .before .before .before .record-in .ensures,
+    ) refl
+
+pub sequence-in-spec : {M : Type 1} → statement M
+sequence-in-spec =
+    tie.close
+    (tie.spec
+    record-in-requires
+    decisions-of-requires
+    sequence-requires
+    is-recorded-requires
+    are-decisions-requires
+    with-list-requires
+    returns)

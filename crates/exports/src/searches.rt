@@ -1,0 +1,43 @@
+// The search of a record at a tolerance.
+use fields::record_in;
+use wire::is_accepted;
+use wire::lent_both;
+use wire::pack_answer;
+use wire::put_decisions;
+ghost use mathlib.Core.List.{[], _∷_};
+ghost use mathlib.Core.Path.{_≡_};
+ghost use Prim.Native.Nat.{_≤_};
+ghost use lib.ListN.{length};
+ghost use Rattle.writer.specs.Write.{put};
+ghost use Rattle.exports.specs.Search.{SearchShown};
+
+fn put_totals(value: u32, ceiling: u32, out: &mut [u32])
+    requires { ⌜ 2 ≤ length (now out) ⌝ }
+    ensures { λ r. ⌜ now (out .exit) ≡ put 0 (value ∷ ceiling ∷ []) (now (out .entry)) ⌝ }
+{
+    out[0] = value;
+    out[1] = ceiling;
+}
+
+// Writes the decisions of a relaxation within the tolerance of the best, its value and a ceiling.
+#[no_mangle]
+pub extern "C" fn wharftoken_search(
+    record: &[u8],
+    tolerance: u32,
+    decisions: &mut [u8],
+    totals: &mut [u32],
+) -> u64
+    ensures { λ r. ⌜ SearchShown (now («record» .entry)) tolerance (now (decisions .entry)) (now (totals .entry)) r (now (decisions .exit)) (now (totals .exit)) ⌝ }
+{
+    let s = record_in(record);
+    let x = search::search(s, tolerance);
+    let first = x.answer;
+    let answer = lent_both(first, decisions.len(), 96, totals.len(), 2);
+    if !is_accepted(answer) {
+        return pack_answer(answer, 0);
+    }
+    let d = x.decisions;
+    put_decisions(d, decisions);
+    put_totals(x.value, x.ceiling, totals);
+    pack_answer(answer, 0)
+}

@@ -1,0 +1,6 @@
+pub mod Packed
+pub mod Lent
+pub mod Parts
+pub mod Decisions
+pub mod Places
+pub mod laws

@@ -1,0 +1,17 @@
+// What crosses the boundary to C and Rust: answers as one number, lent outputs, decisions and places as bytes.
+mod decision_bytes;
+mod decisions_out;
+mod outputs;
+mod packed;
+mod places_out;
+
+pub use decision_bytes::are_decisions;
+pub use decision_bytes::decisions_of;
+pub use decisions_out::put_decisions;
+pub use outputs::is_accepted;
+pub use outputs::lent;
+pub use outputs::lent_both;
+pub use outputs::with_list;
+pub use packed::pack_answer;
+pub use places_out::places_in_use;
+pub use places_out::put_places;

@@ -1,6 +1,5 @@
 -- Safe: the page has room for every level.
 use native.Mathlib.Omega.{arith}
-use borrow.Author.Needs.{needs}
 use Rattle.chains.proofs.chain.find.Statement.{statement}
 use Rattle.chains.proofs.chain.find.Tie as tie
 use Rattle.chains.proofs.chain.find.Reads as reads

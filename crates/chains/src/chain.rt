@@ -9,7 +9,7 @@ ghost use Prim.Native.Nat.{_≤_, _<_};
 ghost use lib.ListN.{length};
 ghost use Rattle.chains.specs.Lent.{Lent};
 
-// Items are numbered from 0 for options and from 32 for orderings. No chain has length 0.
+// Items are numbered from 0 for options and from 32 for orderings. Where there is no chain, the length is 0.
 pub struct Chain {
     pub len: usize,
     pub items: [u8; 64],

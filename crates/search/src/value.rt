@@ -55,7 +55,8 @@ pub fn dive<'a>(
     dive(kept, t, first, second, weights, ordering_weights, n, m)
 }
 
-// The greater of the floor and the best value among what agrees, where `back` is the catalogue's table turned over: an open item is kept, and after that dropped, from what the first came to.
+// The greater of the floor and the best value among what agrees: an open item is kept, and after that dropped, from what the first came to.
+// `back` is the catalogue's table turned over; which item is taken up goes by it.
 pub fn best_value<'a>(
     g: Given,
     floor: u32,

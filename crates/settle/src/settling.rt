@@ -43,7 +43,7 @@ fn nothing_left(g: Given) -> Step
     }
 }
 
-// How much must be charged to bring the upper limit below what is wanted. Where anything is wanted nothing need be charged.
+// How much must be charged to bring the upper limit below what is wanted. Where any value will do, nothing need be charged.
 fn enough(upper: u32, want: u32) -> u32
     requires { ⌜ (want ≤ upper) × (upper ≤ 6291360) ⌝ }
     ensures { λ r. ⌜ r ≤ 6291361 ⌝ }

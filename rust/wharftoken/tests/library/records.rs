@@ -21,7 +21,7 @@ fn compare(shown: &str, record: &[u8], list: &[u8]) -> bool {
     text.is_ok()
 }
 
-/// Searches small sheets only: a large one may take too long, and the twin has no best for it.
+/// Searches small sheets only: the twin has no best for a large one.
 fn compare_search(shown: &str, record: &[u8]) {
     let wanted = match expected::sheet(record) {
         Ok(sheet) if sheet.items() > MOST_ENUMERATED => return,

@@ -10,16 +10,9 @@ use Rattle.rules.specs.laws.search.Charged as R
 use Rattle.rows.specs.Sets.{Holds}
 use Rattle.graph.specs.Shown.{counted}
 use Rattle.half.specs.Weights.{Weighs}
-use Rattle.charge.specs.Taken.{residual-in, LeftIn}
-use Rattle.charge.specs.laws.Shown.{ShowsKnown}
+use Rattle.residual.specs.Taken.{residual-in, LeftIn}
+use Rattle.numbered.specs.Shown.{ShowsKnown}
 use Rattle.bound.specs.declared.charging.Charged.{Charged}
-use Rattle.bound.specs.declared.hints.Hints.{Hints}
-
--- Hints after so much was charged: two full arrays, and nothing else is promised.
-pub record HintsAt (charged : ℕ) (h : Hints) : Type 0 where
-  pub is : h .charged ≡ charged
-  pub soft-size : length (h .soft) ≡ 32
-  pub held-size : length (h .held) ≡ 32
 
 -- One charge more, of e.
 pub record ChargesMore (known firsts seconds : List ℕ) (n m e : ℕ) (options orderings options′ orderings′ : List ℕ) : Type 0 where

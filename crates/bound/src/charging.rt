@@ -1,20 +1,30 @@
 // Chains charged one after another.
-use crate::hints::Hints;
-use crate::hints::hints_after;
-use crate::hints::hints_of;
-use crate::hints::next_holding;
-use crate::hints::next_item;
 use chains::find;
 use charge::charge;
-use charge::start_options;
-use charge::start_orderings;
-ghost use mathlib.Core.Path.{_≡_};
-ghost use Prim.Native.Nat.{ℕ, _+_, _≤_, _<_};
+use hints::Hints;
+use hints::hints_after;
+use hints::hints_of;
+use hints::next_holding;
+use hints::next_item;
+use residual::start_options;
+use residual::start_orderings;
+ghost use Prim.Native.Nat.{_+_, _≤_};
 ghost use lib.ListN.{length};
 ghost use Rattle.graph.specs.Graph.{EndsAreSlots};
-ghost use Rattle.half.specs.Weights.{HasWeights};
-ghost use Rattle.charge.specs.Taken.{LeftIn};
-ghost use Rattle.bound.specs.Bound.{HintsAt, ChargesMore, KeepsCharged, BoundedAs};
+ghost use Rattle.half.specs.Weights.{HasWeights, largest-sum};
+ghost use Rattle.residual.specs.Taken.{LeftIn};
+ghost use Rattle.hints.specs.Hints.{HintsAt};
+ghost use Rattle.bound.specs.Bound.{ChargesMore, KeepsCharged, BoundedAs};
+
+// A round of charges: what is open of n options and m orderings, how many items a chain may have, and how much is enough.
+pub struct Round {
+    pub n: usize,
+    pub m: usize,
+    pub options: u32,
+    pub orderings: u64,
+    pub most: usize,
+    pub enough: u32,
+}
 
 // A chain through item x, if one is found: what is charged for it.
 fn charge_one(
@@ -22,102 +32,72 @@ fn charge_one(
     after: &[u32],
     first: &[u8],
     second: &[u8],
-    n: usize,
-    m: usize,
-    positive: u32,
-    soft: &[u32],
-    held: &[u32],
+    r: Round,
+    h: Hints,
     x: usize,
-    most: usize,
     options: &mut [u32],
     orderings: &mut [u32],
 ) -> u32
-    requires { ⌜ EndsAreSlots n m (now first) (now second) × (32 ≤ length (now known)) × (32 ≤ length (now after)) × (32 ≤ length (now soft)) × (32 ≤ length (now held)) × (most ≤ 60) × LeftIn n m (now options) (now orderings) ⌝ }
-    ensures { λ r. ⌜ ChargesMore (now (known .entry)) (now (first .entry)) (now (second .entry)) n m r (now (options .entry)) (now (orderings .entry)) (now (options .exit)) (now (orderings .exit)) ⌝ }
+    requires { ⌜ EndsAreSlots (r .n) (r .m) (now first) (now second) × (32 ≤ length (now known)) × (32 ≤ length (now after)) × HintsAt (h .charged) h × (r .most ≤ 60) × LeftIn (r .n) (r .m) (now options) (now orderings) ⌝ }
+    ensures { λ e. ⌜ ChargesMore (now (known .entry)) (now (first .entry)) (now (second .entry)) (r .n) (r .m) e (now (options .entry)) (now (orderings .entry)) (now (options .exit)) (now (orderings .exit)) ⌝ }
 {
+    let n = r.n;
+    let m = r.m;
+    let soft = h.soft;
+    let held = h.held;
     let c = find(
         known,
         after,
         first,
         second,
         m,
-        positive,
-        soft,
-        held,
+        h.positive,
+        &soft,
+        &held,
         &*orderings,
         x,
-        most,
+        r.most,
     );
-    charge(
-        known,
-        first,
-        second,
-        n,
-        m,
-        &c.items,
-        c.len,
-        options,
-        orderings,
-    )
+    let k = c.len;
+    charge(known, first, second, n, m, &c.items, k, options, orderings)
 }
 
-// Chains of at most so many items: as long as there are some through an item, then through the next. Each takes all that one of its members
-// holds, so 96 items leave at most 192 turns.
+// As long as there are chains through an item, then through the next. Each takes all that one of its members holds, so 96 items leave at most
+// 192 turns.
 fn charge_items(
     known: &[u32],
     after: &[u32],
     first: &[u8],
     second: &[u8],
-    n: usize,
-    m: usize,
-    open_options: u32,
-    open_orderings: u64,
-    most: usize,
-    enough: u32,
+    r: Round,
     options: &mut [u32],
     orderings: &mut [u32],
     h: Hints,
 ) -> Hints
-    requires { ⌜ EndsAreSlots n m (now first) (now second) × (32 ≤ length (now known)) × (32 ≤ length (now after)) × (most ≤ 60) × (enough ≤ 6291361) × LeftIn n m (now options) (now orderings) × (h .charged ≤ 10551136) × HintsAt (h .charged) h ⌝ }
-    ensures { λ r. ⌜ KeepsCharged (now (known .entry)) (now (first .entry)) (now (second .entry)) n m (h .charged) (r .charged) (now (options .entry)) (now (orderings .entry)) (now (options .exit)) (now (orderings .exit)) × HintsAt (r .charged) r ⌝ }
+    requires { ⌜ EndsAreSlots (r .n) (r .m) (now first) (now second) × (32 ≤ length (now known)) × (32 ≤ length (now after)) × (r .most ≤ 60) × (r .enough ≤ largest-sum + 1) × LeftIn (r .n) (r .m) (now options) (now orderings) × (h .charged ≤ 10551136) × HintsAt (h .charged) h ⌝ }
+    ensures { λ k. ⌜ KeepsCharged (now (known .entry)) (now (first .entry)) (now (second .entry)) (r .n) (r .m) (h .charged) (k .charged) (now (options .entry)) (now (orderings .entry)) (now (options .exit)) (now (orderings .exit)) × HintsAt (k .charged) k ⌝ }
 {
     let mut k = h;
     let mut x: usize = 0;
     let mut turns: usize = 192;
     while turns > 0 {
-        if enough <= k.charged {
+        if r.enough <= k.charged {
             return k;
         }
-        let y = next_holding(k.positive, &*orderings, m, x);
-        if 32 + m <= y {
+        let y = next_holding(k.positive, &*orderings, r.m, x);
+        if 32 + r.m <= y {
             return k;
         }
-        let soft = k.soft;
-        let held = k.held;
-        let e = charge_one(
-            known,
-            after,
-            first,
-            second,
-            n,
-            m,
-            k.positive,
-            &soft,
-            &held,
-            y,
-            most,
-            options,
-            orderings,
-        );
+        let e = charge_one(known, after, first, second, r, k, y, options, orderings);
         k = hints_after(
             k,
             e,
             first,
             second,
-            n,
-            m,
-            open_options,
-            open_orderings,
+            r.n,
+            r.m,
+            r.options,
+            r.orderings,
             &*options,
             &*orderings,
         );
@@ -127,6 +107,39 @@ fn charge_items(
     k
 }
 
+// Pairs first, then threes, then chains of any length: short ones leave the most to the others. It stops as soon as enough is charged.
+fn charge_rounds(
+    known: &[u32],
+    after: &[u32],
+    first: &[u8],
+    second: &[u8],
+    r: Round,
+    options: &mut [u32],
+    orderings: &mut [u32],
+) -> u32
+    requires { ⌜ EndsAreSlots (r .n) (r .m) (now first) (now second) × (32 ≤ length (now known)) × (32 ≤ length (now after)) × (r .most ≤ 60) × (r .enough ≤ largest-sum + 1) × LeftIn (r .n) (r .m) (now options) (now orderings) ⌝ }
+    ensures { λ e. ⌜ KeepsCharged (now (known .entry)) (now (first .entry)) (now (second .entry)) (r .n) (r .m) 0 e (now (options .entry)) (now (orderings .entry)) (now (options .exit)) (now (orderings .exit)) ⌝ }
+{
+    let h = hints_of(
+        first,
+        second,
+        r.n,
+        r.m,
+        r.options,
+        r.orderings,
+        &*options,
+        &*orderings,
+        0,
+    );
+    let mut q = r;
+    let a = charge_items(known, after, first, second, q, options, orderings, h);
+    q.most = 3;
+    let b = charge_items(known, after, first, second, q, options, orderings, a);
+    q.most = 60;
+    let c = charge_items(known, after, first, second, q, options, orderings, b);
+    c.charged
+}
+
 // What was charged, and what is left of each item's weight.
 pub struct Charged {
     pub charged: u32,
@@ -134,7 +147,7 @@ pub struct Charged {
     pub left_orderings: [u32; 64],
 }
 
-// Pairs first, then threes, then chains of any length: short ones leave the most to the others. It stops as soon as enough is charged.
+// Nothing is charged where nothing need be.
 pub fn bound(
     known: &[u32],
     after: &[u32],
@@ -148,76 +161,25 @@ pub fn bound(
     open_orderings: u64,
     enough: u32,
 ) -> Charged
-    requires { ⌜ EndsAreSlots n m (now first) (now second) × HasWeights n m (now weights) (now «ordering_weights») × (32 ≤ length (now known)) × (32 ≤ length (now after)) × (enough ≤ 6291361) ⌝ }
+    requires { ⌜ EndsAreSlots n m (now first) (now second) × HasWeights n m (now weights) (now «ordering_weights») × (32 ≤ length (now known)) × (32 ≤ length (now after)) × (enough ≤ largest-sum + 1) ⌝ }
     ensures { λ r. ⌜ BoundedAs (now (known .entry)) (now (first .entry)) (now (second .entry)) n m (now (weights .entry)) (now («ordering_weights» .entry)) «open_options» «open_orderings» r ⌝ }
 {
     let mut options = start_options(open_options, weights, n);
     let mut orderings = start_orderings(open_orderings, ordering_weights, m);
-    if enough == 0 {
-        return Charged {
-            charged: 0,
-            left_options: options,
-            left_orderings: orderings,
+    let mut e: u32 = 0;
+    if enough > 0 {
+        let r = Round {
+            n: n,
+            m: m,
+            options: open_options,
+            orderings: open_orderings,
+            most: 2,
+            enough: enough,
         };
+        e = charge_rounds(known, after, first, second, r, &mut options, &mut orderings);
     }
-    let h = hints_of(
-        first,
-        second,
-        n,
-        m,
-        open_options,
-        open_orderings,
-        &options,
-        &orderings,
-        0,
-    );
-    let a = charge_items(
-        known,
-        after,
-        first,
-        second,
-        n,
-        m,
-        open_options,
-        open_orderings,
-        2,
-        enough,
-        &mut options,
-        &mut orderings,
-        h,
-    );
-    let b = charge_items(
-        known,
-        after,
-        first,
-        second,
-        n,
-        m,
-        open_options,
-        open_orderings,
-        3,
-        enough,
-        &mut options,
-        &mut orderings,
-        a,
-    );
-    let c = charge_items(
-        known,
-        after,
-        first,
-        second,
-        n,
-        m,
-        open_options,
-        open_orderings,
-        60,
-        enough,
-        &mut options,
-        &mut orderings,
-        b,
-    );
     Charged {
-        charged: c.charged,
+        charged: e,
         left_options: options,
         left_orderings: orderings,
     }

@@ -8,7 +8,7 @@ use sheet::Sheet;
 
 // Whether the record is recorded, what the writer answers, and whether its buffer is untouched.
 fn one_record(s: Sheet) {
-    print_bool(sheet::is_recorded(s));
+    print_bool(record::is_recorded(s));
     let mut out = [35u8; 80];
     let w = writer::write(s, &mut out);
     let a = w.answer;

@@ -1,26 +1,5 @@
 // Answers as lines of text.
 use sheet::Answer;
-use sheet::Refusal;
-
-fn number_of(why: Refusal) -> u64 {
-    match why {
-        Refusal::SheetTooLong => 1,
-        Refusal::NoTrailer => 2,
-        Refusal::BadTrailer => 3,
-        Refusal::Misshapen => 4,
-        Refusal::OutsideRange => 5,
-        Refusal::TooManyLines => 6,
-        Refusal::SubscribedTwice => 7,
-        Refusal::OneOptionTwice => 8,
-        Refusal::NotSubscribed => 9,
-        Refusal::SamePairAgain => 10,
-        Refusal::ToleranceTooLarge => 11,
-        Refusal::NotRecorded => 12,
-        Refusal::OutputTooShort => 13,
-        Refusal::WrongDecisions => 14,
-        Refusal::NotConsistent => 15,
-    }
-}
 
 pub fn print_number(n: usize) {
     io::print_decimal(1, n as u64);
@@ -34,8 +13,7 @@ pub fn print_answer(a: Answer) {
             io::write_all(1, b"0 0 0 ");
         }
         Answer::Refused { place, why } => {
-            io::print_decimal(1, number_of(why));
-            io::write_all(1, b" ");
+            print_number(sheet::number_of(why));
             print_number(place.line);
             print_number(place.column);
         }

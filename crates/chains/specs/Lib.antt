@@ -1,4 +1,3 @@
-pub mod Transposed
 pub mod Lent
 pub mod Held
 pub mod laws

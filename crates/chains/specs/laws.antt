@@ -1,3 +1,1 @@
-pub mod Nought
-pub mod Transposed
 pub mod Held

@@ -5,7 +5,6 @@ mod chain;
 mod held;
 mod level;
 mod member;
-mod table;
 mod walk;
 
 pub use chain::Chain;
@@ -15,4 +14,3 @@ pub use held::soft_of;
 pub use member::end_at;
 pub use member::lowest;
 pub use member::without_lowest;
-pub use table::transposed;

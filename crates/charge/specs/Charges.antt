@@ -1,17 +1,16 @@
--- One charge, as the code makes it and gives it back; and what is left before the first.
+-- One charge, as the code makes it and gives it back.
 use mathlib.Core.Path.{_≡_}
 use mathlib.Core.List.{List}
 use Prim.Native.Nat.{ℕ, _+_, _≤_, _<_}
 use lib.ListN.{length, getD}
 use lib.Dec.{T}
-use Rattle.rules.specs.Slots.{pick}
 use Rattle.rules.specs.laws.search.Items.{closes}
 use Rattle.rules.specs.laws.search.Residual.{Lower}
 use Rattle.rules.specs.laws.search.Charged.{Charge}
-use Rattle.rows.specs.Bits.{has}
 use Rattle.rows.specs.Sets.{cell}
-use Rattle.charge.specs.Items.{ends-only, members, AllNamed}
-use Rattle.charge.specs.Taken.{residual-in, LeftIn, held-in}
+use Rattle.numbered.specs.Items.{ends-only}
+use Rattle.links.specs.Links.{members, AllNamed}
+use Rattle.residual.specs.Taken.{residual-in, LeftIn, held-in}
 
 -- What the first k members' consequences hold at the outset, and a number that is above none of it.
 pub record Measured (firsts seconds : List ℕ) (n m : ℕ) (options orderings chain : List ℕ) (k least : ℕ) (was : List ℕ) : Type 0 where
@@ -37,10 +36,3 @@ pub record ChargedAs (known firsts seconds : List ℕ) (n m : ℕ) (chain : List
   pub charges : Charges known firsts seconds n m chain k e options orderings options′ orderings′
   pub few : e ≤ 4259775
   pub left-in : LeftIn n m options′ orderings′
-
--- Before anything is charged: an open item's weight, and nothing for any other.
-pub record StartsAs (opens : ℕ) (weights : List ℕ) (size k : ℕ) (left : List ℕ) : Type 0 where
-  pub long : length left ≡ size
-  pub at : (i : ℕ) → i < k → getD left i 0 ≡ pick (has opens i) (getD weights i 0)
-  pub past : (i : ℕ) → k ≤ i → getD left i 0 ≡ 0
-  pub small : (i : ℕ) → getD left i 0 ≤ 65535

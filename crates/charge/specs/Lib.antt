@@ -1,4 +1,2 @@
-pub mod Items
-pub mod Taken
 pub mod Charges
 pub mod laws

@@ -1,13 +1,13 @@
 // One charge: the least that a member's consequences hold, taken from the consequences of every member.
-use crate::chain::all_named;
-use crate::chain::closed;
-use crate::taking::held_by;
-use crate::taking::take;
-ghost use Prim.Native.Nat.{ℕ, _+_, _-_, _≤_, _<_};
+use links::all_named;
+use links::closed;
+use residual::held_by;
+use residual::take;
+ghost use Prim.Native.Nat.{_≤_};
 ghost use lib.ListN.{length};
 ghost use Rattle.graph.specs.Graph.{EndsAreSlots};
-ghost use Rattle.charge.specs.Items.{AllNamed};
-ghost use Rattle.charge.specs.Taken.{LeftIn};
+ghost use Rattle.links.specs.Links.{AllNamed};
+ghost use Rattle.residual.specs.Taken.{LeftIn};
 ghost use Rattle.charge.specs.Charges.{Measured, Gave, ChargedAs};
 
 // What the members hold, and the least of it.

@@ -11,7 +11,7 @@ use Rattle.limits.specs.declared.answer.LimitsAnswer.{LimitsAnswer}
 use Rattle.figures.specs.Limits.{limit-numbers, contradictions}
 use Rattle.wire.specs.Packed.{packed-answer}
 use Rattle.fields.specs.Record.{record-in}
-use Rattle.wire.specs.Decisions.{decisions-of, are-decisions, decision-bytes}
+use Rattle.decisions.specs.Decisions.{decisions-of, are-decisions, decision-bytes}
 use Rattle.wire.specs.Lent.{with-list, lent, written}
 
 -- 12, 14, from bytes.

@@ -10,7 +10,7 @@ use Rattle.search.specs.Search.{SearchedAs}
 use Rattle.search.specs.declared.sheet_search.Searched.{Searched}
 use Rattle.wire.specs.Packed.{packed-answer}
 use Rattle.fields.specs.Record.{record-in}
-use Rattle.wire.specs.Decisions.{decision-bytes}
+use Rattle.decisions.specs.Decisions.{decision-bytes}
 use Rattle.wire.specs.Lent.{lent, written}
 
 -- The value and the ceiling.

@@ -9,7 +9,7 @@ use Rattle.sequence.specs.Answer.{sequence-answer}
 use Rattle.sequence.specs.declared.answer.Sequenced.{Sequenced}
 use Rattle.wire.specs.Packed.{packed-answer}
 use Rattle.fields.specs.Record.{record-in}
-use Rattle.wire.specs.Decisions.{decisions-of, are-decisions}
+use Rattle.decisions.specs.Decisions.{decisions-of, are-decisions}
 use Rattle.wire.specs.Places.{place-numbers, places-in-use}
 use Rattle.wire.specs.Lent.{with-list, lent, written}
 

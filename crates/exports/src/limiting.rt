@@ -1,14 +1,14 @@
 // Forced decisions and limits of a half-decided sheet.
+use decisions::are_decisions;
+use decisions::decisions_of;
+use decisions::put_decisions;
 use fields::record_in;
 use figures::contradictions;
 use figures::put_limits;
 use limits::LimitsAnswer;
-use wire::are_decisions;
-use wire::decisions_of;
 use wire::is_accepted;
 use wire::lent_both;
 use wire::pack_answer;
-use wire::put_decisions;
 use wire::with_list;
 ghost use mathlib.Core.Path.{_≡_};
 ghost use Rattle.exports.specs.Limits.{limits-in, limits-result, forced-bytes, limits-numbers};
@@ -21,7 +21,7 @@ fn limits_in(bytes: &[u8], list: &[u8]) -> LimitsAnswer
     let d = decisions_of(list);
     let x = limits::limits(s, d);
     let first = x.answer;
-    let recorded = sheet::is_recorded(s);
+    let recorded = record::is_recorded(s);
     let spelled = are_decisions(list);
     let answer = with_list(first, recorded, spelled);
     let limits = x.limits;

@@ -1,5 +1,5 @@
 // A sheet's text to the bytes of its record.
-use fields::put_record;
+use fields_out::put_record;
 use wire::is_accepted;
 use wire::lent;
 use wire::pack_answer;

@@ -1,14 +1,14 @@
 // The search of a record at a tolerance.
+use decisions::put_decisions;
 use fields::record_in;
 use wire::is_accepted;
 use wire::lent_both;
 use wire::pack_answer;
-use wire::put_decisions;
 ghost use mathlib.Core.List.{[], _∷_};
 ghost use mathlib.Core.Path.{_≡_};
 ghost use Prim.Native.Nat.{_≤_};
 ghost use lib.ListN.{length};
-ghost use Rattle.writer.specs.Write.{put};
+ghost use Rattle.print.specs.Put.{put};
 ghost use Rattle.exports.specs.Search.{SearchShown};
 
 fn put_totals(value: u32, ceiling: u32, out: &mut [u32])

@@ -1,8 +1,8 @@
 // The sequence of a full decision, place by place.
+use decisions::are_decisions;
+use decisions::decisions_of;
 use fields::record_in;
 use sequence::Sequenced;
-use wire::are_decisions;
-use wire::decisions_of;
 use wire::is_accepted;
 use wire::lent;
 use wire::pack_answer;
@@ -20,7 +20,7 @@ fn sequence_in(bytes: &[u8], list: &[u8]) -> Sequenced
     let d = decisions_of(list);
     let x = sequence::sequence(s, d);
     let first = x.answer;
-    let recorded = sheet::is_recorded(s);
+    let recorded = record::is_recorded(s);
     let spelled = are_decisions(list);
     let answer = with_list(first, recorded, spelled);
     let places = x.places;

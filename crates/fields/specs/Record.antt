@@ -5,7 +5,7 @@ use mathlib.Core.List.{List, [], _∷_, _++_}
 use lib.Dec.{eqb}
 use lib.ListN.{length, getD}
 use Rattle.rules.specs.Slots.{list-of}
-use Rattle.wire.specs.Parts.{parts}
+use Rattle.entries.specs.Parts.{parts}
 use Rattle.sheet.specs.Sheet.{sized}
 use Rattle.sheet.specs.declared.sheet.Sheet.{Sheet}
 

@@ -1,3 +1,3 @@
 pub mod Record
-pub mod Put
+pub mod Lengths
 pub mod RoundTrip

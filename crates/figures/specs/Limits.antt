@@ -3,10 +3,10 @@ use Prim.Native.Nat.{ℕ}
 use mathlib.Core.Bool.{Bool, true, false}
 use mathlib.Core.List.{List, [], _∷_, _++_}
 use lib.ListN.{getD}
-use Rattle.limits.specs.Cells.{no-limit}
-use Rattle.limits.specs.declared.cells.Limit.{Limit}
+use Rattle.cells.specs.Cells.{no-limit}
+use Rattle.cells.specs.declared.cells.Limit.{Limit}
 use Rattle.limits.specs.declared.whole.Limited.{Limited}
-use Rattle.wire.specs.Parts.{parts}
+use Rattle.entries.specs.Parts.{parts}
 
 -- Kept, lower; kept, upper; dropped, lower; dropped, upper.
 abbrev pub four-of : Limit → List ℕ

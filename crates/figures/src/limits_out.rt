@@ -1,11 +1,11 @@
 // Limits to their numbers.
-use limits::Limit;
+use cells::Limit;
 use limits::Limited;
 ghost use mathlib.Core.Path.{_≡_};
 ghost use Prim.Native.Nat.{_+_, _≤_};
 ghost use lib.ListN.{length};
-ghost use Rattle.writer.specs.Write.{put};
-ghost use Rattle.wire.specs.Parts.{parts};
+ghost use Rattle.print.specs.Put.{put};
+ghost use Rattle.entries.specs.Parts.{parts};
 ghost use Rattle.figures.specs.Limits.{four-of, four-at, limit-numbers, contradictions};
 
 // The four limits of an item from `at` on.

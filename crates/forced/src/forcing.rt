@@ -4,9 +4,6 @@ use crate::parts::dropped_orderings;
 use crate::parts::kept_options;
 use crate::parts::meets;
 use given::Given;
-ghost use mathlib.Core.Path.{_≡_};
-ghost use Prim.Native.Nat.{ℕ, _+_, _≤_, _<_};
-ghost use lib.ListN.{length};
 ghost use Rattle.graph.specs.Graph.{EndsAreSlots};
 ghost use Rattle.forced.specs.Forced.{ForcedBy};
 

@@ -1,8 +1,8 @@
 // The forced decisions, part by part: each set follows from the sets before it.
 ghost use mathlib.Core.Path.{_≡_};
 ghost use mathlib.Core.Bool.{_&&_, _||_};
-ghost use Prim.Native.Nat.{ℕ, _+_, _≤_, _<_};
-ghost use lib.ListN.{length, getD};
+ghost use Prim.Native.Nat.{_+_, _≤_, _<_};
+ghost use lib.ListN.{getD};
 ghost use Rattle.rules.specs.Slots.{some-below};
 ghost use Rattle.rows.specs.Bits.{has};
 ghost use Rattle.rows.specs.Sets.{Holds};

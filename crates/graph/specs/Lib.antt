@@ -1,3 +1,4 @@
 pub mod Graph
+pub mod Transposed
 pub mod Shown
 pub mod laws

@@ -1,7 +1,8 @@
 // Graphs over slots, as tables of rows. For the crates above: slots handed in must be in range.
-ghost use mathlib.Core.Path.{_≡_};
-ghost use Prim.Native.Nat.{ℕ, _+_, _≤_, _<_};
-ghost use lib.ListN.{length};
+mod table;
+
+pub use table::transposed;
+ghost use Prim.Native.Nat.{_+_, _≤_, _<_};
 ghost use Rattle.graph.specs.Graph.{EndsAreSlots, WithOrderings, JoinedThrough, JoinedThroughAll};
 
 // The table with the kept orderings in it.

@@ -8,7 +8,7 @@ use lib.Dec.{eqb}
 use Rattle.rules.specs.Slots.{sum, over}
 use Rattle.rows.specs.Bits.{has}
 use Rattle.rows.specs.Sets.{Holds}
-use Rattle.half.specs.Weights.{weight-in}
+use Rattle.half.specs.Weights.{largest-sum, weight-in}
 use Rattle.forced.specs.declared.forcing.Forced.{Forced}
 use Rattle.half.specs.declared.opened.Half.{Half}
 
@@ -26,8 +26,8 @@ weight-of-sets n m ws bs p q = over n (weight-in ws) p + over m (weight-in bs) q
 -- What is open weighs no more than what is not dropped; numbers stay small.
 pub record OpenFits (h : Half) (n m : ℕ) (ws bs : List ℕ) : Type 0 where
   pub fits : weight-of-sets n m ws bs (has (h .«open_options»)) (has (h .«open_orderings»)) ≤ h .upper
-  pub lower : h .lower ≤ 6291360
-  pub upper : h .upper ≤ 6291360
+  pub lower : h .lower ≤ largest-sum
+  pub upper : h .upper ≤ largest-sum
 
 pub record HalfDecidedAs (f : Forced) (n m : ℕ) (ws bs : List ℕ) (h : Half) : Type 0 where
   pub options : Holds (h .«open_options») n (λ i. not (has (f .kept) i || has (f .dropped) i))

@@ -12,6 +12,10 @@ pub record HasWeights (n m : ℕ) (ws bs : List ℕ) : Type 0 where
   pub weight-size : n ≤ length ws
   pub ordering-weight-size : m ≤ length bs
 
+-- 96 weights of 16 bits add up to no more, so their sums fit into 32 bits.
+abbrev pub largest-sum : ℕ
+largest-sum = 6291360
+
 abbrev pub weight-in : List ℕ → ℕ → ℕ
 weight-in ws i = getD ws i 0
 

@@ -2,7 +2,7 @@
 use sheet::Choice;
 use sheet::Decision;
 ghost use mathlib.Core.Path.{_≡_};
-ghost use Prim.Native.Nat.{ℕ, _≤_};
+ghost use Prim.Native.Nat.{_≤_};
 ghost use Rattle.rules.specs.Forced.{decision-of};
 ghost use Rattle.rows.specs.Bits.{has};
 ghost use Rattle.given.specs.Given.{undecided, choice-of};

@@ -2,10 +2,8 @@
 use crate::weights::weigh_all;
 use crate::weights::weigh_both;
 use forced::Forced;
-ghost use mathlib.Core.Path.{_≡_};
-ghost use mathlib.Core.Bool.{true, _&&_, _||_, not};
-ghost use Prim.Native.Nat.{ℕ, _+_, _*_, _≤_, _<_};
-ghost use lib.ListN.{length, getD};
+ghost use mathlib.Core.Bool.{_||_, not};
+ghost use Prim.Native.Nat.{_+_, _≤_, _<_};
 ghost use Rattle.rows.specs.Bits.{has};
 ghost use Rattle.rows.specs.Sets.{Holds};
 ghost use Rattle.half.specs.Weights.{HasWeights};

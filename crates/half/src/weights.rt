@@ -1,10 +1,10 @@
 // Weights of sets of items.
 ghost use mathlib.Core.Path.{_≡_};
-ghost use Prim.Native.Nat.{ℕ, _+_, _*_, _≤_, _<_};
+ghost use Prim.Native.Nat.{_+_, _*_, _≤_, _<_};
 ghost use lib.ListN.{getD, length};
 ghost use Rattle.rules.specs.Slots.{sum, pick, over};
 ghost use Rattle.rows.specs.Bits.{has};
-ghost use Rattle.half.specs.Weights.{HasWeights};
+ghost use Rattle.half.specs.Weights.{HasWeights, largest-sum};
 
 // A weight if asked, and else nothing.
 pub fn weight_if(yes: bool, w: u16) -> u32
@@ -56,7 +56,7 @@ pub fn weigh_both(
     m: usize,
 ) -> u32
     requires { ⌜ HasWeights n m (now weights) (now «ordering_weights») ⌝ }
-    ensures { λ r. ⌜ (r ≡ over n (λ i. getD (now (weights .entry)) i 0) (has options) + over m (λ u. getD (now («ordering_weights» .entry)) u 0) (has orderings)) × (r ≤ 6291360) ⌝ }
+    ensures { λ r. ⌜ (r ≡ over n (λ i. getD (now (weights .entry)) i 0) (has options) + over m (λ u. getD (now («ordering_weights» .entry)) u 0) (has orderings)) × (r ≤ largest-sum) ⌝ }
 {
     let x = weigh(options as u64, weights, n);
     let y = weigh(orderings, ordering_weights, m);

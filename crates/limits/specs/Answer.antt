@@ -4,11 +4,9 @@ use mathlib.Core.List.{List, [], _∷_, map}
 use Prim.Native.Nat.{ℕ, zero, suc}
 use lib.ListN.{replicate, take, drop}
 use Rattle.rules.specs.Forced.{contradiction}
-use Rattle.rules.specs.Limits.{A}
 use Rattle.given.specs.Given.{undecided, decided-past, choice-of, decision-list}
 use Rattle.rules.specs.Results.{limits-of}
-use Rattle.limits.specs.Cells.{no-limit}
-use Rattle.limits.specs.Limited.{shown-limit}
+use Rattle.cells.specs.Cells.{no-limit, shown-limit}
 use Rattle.sheet.specs.Lines.{lines-of}
 use Rattle.sheet.specs.IsRecorded.{is-recorded}
 use Rattle.rules.specs.Results as R

@@ -1,4 +1,3 @@
-pub mod Cells
 pub mod Limited
 pub mod Answer
 pub mod laws

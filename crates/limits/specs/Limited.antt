@@ -13,15 +13,10 @@ use Rattle.given.specs.Given.{undecided, Gives, choice-of}
 use Rattle.graph.specs.Shown.{counted, Shows}
 use Rattle.rules.specs.Results.{option-limit, ordering-limit}
 use Rattle.half.specs.Weights.{Weighs}
-use Rattle.limits.specs.Cells.{no-limit}
+use Rattle.cells.specs.Cells.{no-limit, shown-limit}
 use Rattle.half.specs.Filled.{filled}
-use Rattle.rules.specs.Results as R
 use Rattle.given.specs.declared.sets.Given.{Given}
-use Rattle.limits.specs.declared.cells.Limit.{Limit}
 use Rattle.limits.specs.declared.whole.Limited.{Limited}
-
-abbrev pub shown-limit : R.Limit → Limit
-shown-limit l = record { «kept_lower» = l .kept-lower; «kept_upper» = l .kept-upper; «dropped_lower» = l .dropped-lower; «dropped_upper» = l .dropped-upper }
 
 -- A contradiction: "its decisions are then all open and its limits all zero."
 abbrev pub contradictory : Limited

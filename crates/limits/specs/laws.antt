@@ -1,6 +1,3 @@
-pub mod Charges
-pub mod Cells
-pub mod Table
 pub mod Limited
 pub mod Padded
 pub mod Answer

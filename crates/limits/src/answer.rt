@@ -1,7 +1,7 @@
 // The public function: refusals first, then the whole answer.
-use crate::cells::no_limit;
 use crate::whole::Limited;
 use crate::whole::limits_of;
+use cells::no_limit;
 use shape::Place;
 use sheet::Answer;
 use sheet::Choice;
@@ -55,7 +55,7 @@ pub fn limits(sheet: Sheet, decisions: Decisions) -> LimitsAnswer
 {
     let n = sheet.option_count;
     let m = sheet.ordering_count;
-    if !sheet::is_recorded(sheet) {
+    if !record::is_recorded(sheet) {
         return refused(Refusal::NotRecorded);
     }
     if given::has_decision_past(decisions, n, m) {

@@ -1,23 +1,18 @@
 // The whole answer about a half-decided sheet.
-use crate::cells::Limit;
-use crate::cells::no_limit;
-use crate::cells::option_limit;
-use crate::cells::ordering_limit;
+use cells::Limit;
+use cells::no_limit;
+use cells::option_limit;
+use cells::ordering_limit;
 use given::Given;
 use half::Half;
 use sheet::Choice;
 use sheet::Decision;
 use sheet::Decisions;
 ghost use mathlib.Core.Path.{_≡_};
-ghost use Prim.Native.Nat.{ℕ, _+_, _*_, _≤_, _<_};
-ghost use lib.ListN.{length, getD};
-ghost use Rattle.rows.specs.Bits.{has};
 ghost use Rattle.graph.specs.Graph.{EndsAreSlots};
-ghost use Rattle.rules.specs.Forced.{decision-of};
-ghost use Rattle.given.specs.Given.{undecided, choice-of};
 ghost use Rattle.half.specs.Weights.{HasWeights};
 ghost use Rattle.half.specs.Half.{OpenFits};
-ghost use Rattle.limits.specs.Cells.{no-limit, option-limit-in, ordering-limit-in};
+ghost use Rattle.cells.specs.Cells.{no-limit, option-limit-in, ordering-limit-in};
 ghost use Rattle.half.specs.Filled.{filled};
 ghost use Rattle.limits.specs.Limited.{contradictory, LimitedBy};
 

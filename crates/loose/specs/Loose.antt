@@ -9,7 +9,7 @@ use lib.Dec.{eqb}
 use Rattle.rules.specs.Slots.{some-below}
 use Rattle.rows.specs.Bits.{has}
 use Rattle.rows.specs.Sets.{cell}
-use Rattle.charge.specs.Items.{OptionAt}
+use Rattle.links.specs.Links.{OptionAt}
 
 -- The options at which the orderings of a set begin, or end, by the array of that end.
 pub record EndsOf (orderings : ℕ) (ends : List ℕ) (m r : ℕ) : Type 0 where

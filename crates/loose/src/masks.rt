@@ -1,6 +1,6 @@
 // The options at which some orderings begin, or end.
-ghost use Prim.Native.Nat.{ℕ, _≤_, _<_};
-ghost use Rattle.charge.specs.Items.{AreSlots};
+ghost use Prim.Native.Nat.{_≤_, _<_};
+ghost use Rattle.links.specs.Links.{AreSlots};
 ghost use Rattle.loose.specs.Loose.{EndsOf};
 
 pub fn ends_of(orderings: u64, ends: &[u8], n: usize, m: usize) -> u32

@@ -1,8 +1,9 @@
 // Whether nothing open lies on one side of an item.
-ghost use Prim.Native.Nat.{ℕ, _≤_, _<_};
+ghost use Prim.Native.Nat.{_≤_, _<_};
 ghost use lib.ListN.{length};
 ghost use Rattle.graph.specs.Graph.{EndsAreSlots};
-ghost use Rattle.charge.specs.Items.{Named, OnlyIf};
+ghost use Rattle.numbered.specs.Items.{Named};
+ghost use Rattle.links.specs.Links.{OnlyIf};
 ghost use Rattle.loose.specs.Loose.{ClosedEnds, FreeSide, LooseBy};
 
 // By the row of what lies on that side of option o, where item x ends: no open option in it, no open ordering that sets out from it and,
@@ -51,8 +52,8 @@ pub fn is_loose(
     requires { ⌜ EndsAreSlots n m (now first) (now second) × (n ≤ length (now known)) × (n ≤ length (now after)) × Named n m x ⌝ }
     ensures { λ r. ⌜ OnlyIf r (LooseBy (now (known .entry)) (now (after .entry)) (now (first .entry)) (now (second .entry)) n opens begins ends x) ⌝ }
 {
-    let a = charge::option_at(first, n, m, x);
-    let b = charge::option_at(second, n, m, x);
+    let a = links::option_at(first, n, m, x);
+    let b = links::option_at(second, n, m, x);
     let alone = has_closed_ends(opens, a, b, x);
     if !alone {
         return false;

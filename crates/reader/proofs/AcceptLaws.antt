@@ -9,9 +9,9 @@ use lib.ListN.{length, take, drop, getD, take-append-drop}
 use lib.Seq.{drop-append-seam}
 use borrow.Author.Tests.{ltb-false}
 use Rattle.shape.specs.Line.{line-length}
-use Rattle.reader.specs.Lines.{read-lines, judged-line, after-judged, WithinLimits}
-use Rattle.reader.specs.Result.{accepted, refused, refused-at}
-use Rattle.reader.specs.Stored.{stored-line}
+use Rattle.lines.specs.Lines.{read-lines, judged-line, after-judged, WithinLimits}
+use Rattle.lines.specs.Result.{accepted, refused, refused-at}
+use Rattle.lines.specs.Stored.{stored-line}
 use Rattle.shape.specs.Number.{numbers-of}
 use Rattle.shape.specs.Scan.{section-of, misshapen-from, first-misshapen}
 use Rattle.sheet.specs.Sheet.{sized}
@@ -22,12 +22,12 @@ use Rattle.reader.proofs.BodyLaws.{line-of, body-text, text-body}
 use Rattle.shape.specs.Trailer.{line-ends, last-line, is-trailer}
 use Rattle.reader.specs.Read.{read-sheet, read-trailed, read-body, bad-trailer}
 use Rattle.shape.specs.declared.number.Numbers.{Numbers}
-use Rattle.sheet.specs.declared.judge.Judged.{Judged}
-use Rattle.sheet.specs.declared.judge.Judged.the-variants.{Fine, Broken}
+use Rattle.sheet.specs.declared.judged.Judged.{Judged}
+use Rattle.sheet.specs.declared.judged.Judged.the-variants.{Fine, Broken}
 use Rattle.sheet.specs.declared.sheet.Sheet.{Sheet}
 use Rattle.sheet.specs.declared.answer.Refusal.{Refusal}
 use Rattle.sheet.specs.declared.answer.Answer.the-variants.{Accepted, Refused}
-use Rattle.reader.specs.declared.result.Reading.{Reading}
+use Rattle.lines.specs.declared.result.Reading.{Reading}
 use Rattle.shape.specs.declared.scan.Place.{Place}
 use Rattle.shape.specs.declared.scan.Scanned.{Scanned}
 use Rattle.shape.specs.declared.scan.Scanned.the-variants.{Clean, At}

@@ -8,8 +8,8 @@ use lib.ListN.{length, take, drop, getD, replicate}
 use lib.Seq.{getD-set-other}
 use borrow.Author.Tests.{ltb-false}
 use Rattle.shape.specs.Line.{line-length}
-use Rattle.reader.specs.Lines.{read-lines, judged-line}
-use Rattle.reader.specs.Stored.{stored-line, catalogue-letter}
+use Rattle.lines.specs.Lines.{read-lines, judged-line}
+use Rattle.lines.specs.Stored.{stored-line, catalogue-letter}
 use Rattle.shape.specs.Number.{numbers-of}
 use Rattle.shape.specs.Scan.{section-of, first-misshapen}
 use Rattle.sheet.specs.Sheet.{sized}
@@ -20,13 +20,13 @@ use Rattle.reader.proofs.Rule.{Rows, UnusedLines, Rule}
 use Rattle.shape.specs.declared.number.Numbers.{Numbers}
 use Rattle.sheet.specs.declared.sheet.Sheet.{Sheet}
 use Rattle.sheet.specs.declared.answer.Answer.the-variants.{Accepted}
-use Rattle.reader.specs.declared.result.Reading.{Reading}
+use Rattle.lines.specs.declared.result.Reading.{Reading}
 use Rattle.shape.specs.declared.shape.Section.{Section}
 use Rattle.shape.specs.declared.shape.Section.the-variants.{Catalogue, Options, Orderings, Trailer}
-use Rattle.reader.proofs.LineLaws.{in-catalogue, in-options, in-orderings}
+use Rattle.lines.proofs.LineLaws.{in-catalogue, in-options, in-orderings}
 use Rattle.reader.proofs.ReadLaws.{good-trailer}
 use Rattle.reader.proofs.StoredLaws.{sized-lengths, stored-lengths}
-use Rattle.reader.specs.Result.{accepted}
+use Rattle.lines.specs.Result.{accepted}
 use Rattle.reader.proofs.AcceptLaws.{went-on, same-counts, let-by, held, body-clean}
 use Rattle.reader.proofs.RuleLaws.{rows}
 

@@ -13,7 +13,7 @@ use Rattle.sheet.specs.Judge.{is-in, is-pair}
 use Rattle.sheet.specs.Recorded.{OptionNumber, CatalogueLetter, letter, before, after, number, weight, first, second, ordering-weight, Recorded}
 use Rattle.sheet.specs.declared.sheet.Sheet.{Sheet}
 use Rattle.sheet.proofs.SlotLaws.{in-slot-of, slot-is-in, not-in-slots, no-slot-has, pair-not-in-slots, no-slot-has-pair}
-use Rattle.reader.proofs.LineLaws.{in-catalogue, in-options, in-orderings}
+use Rattle.lines.proofs.LineLaws.{in-catalogue, in-options, in-orderings}
 use Rattle.reader.proofs.Rule.{Row, Rule}
 use Rattle.reader.proofs.SizeLaws.{catalogue-row, option-row, ordering-row}
 use Rattle.reader.proofs.StoredLaws.{no-trailer}

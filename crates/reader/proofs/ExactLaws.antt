@@ -11,7 +11,7 @@ use Rattle.sheet.specs.declared.sheet.Sheet.{Sheet}
 use Rattle.sheet.proofs.ObeyLaws.{passes-recorded}
 use Rattle.sheet.proofs.PassLaws.{recorded-passes}
 use Rattle.reader.specs.Read.{read-sheet}
-use Rattle.reader.specs.Result.{accepted}
+use Rattle.lines.specs.Result.{accepted}
 use Rattle.reader.proofs.ByLineLaws.{rule-recorded, recorded-rule}
 use Rattle.reader.proofs.OwnTextLaws.{rule-given}
 use Rattle.reader.proofs.AcceptedRuleLaws.{accepted-rule}

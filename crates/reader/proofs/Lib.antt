@@ -4,7 +4,6 @@ pub mod BodyLaws
 pub mod BodyScanLaws
 pub mod ByLineLaws
 pub mod ExactLaws
-pub mod LineLaws
 pub mod OneVerdictLaws
 pub mod OwnTextLaws
 pub mod ReadLaws

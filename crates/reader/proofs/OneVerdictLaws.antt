@@ -1,5 +1,5 @@
 -- A sheet's lines have one verdict.
-use Prim.Native.Nat.{ℕ, _+_, _-_, _≤_, _<_}
+use Prim.Native.Nat.{ℕ, _+_, _≤_, _<_}
 use mathlib.Core.Path.{_≡_, refl, sym, ap, subst, _∙_}
 use mathlib.Core.Bool.{Bool, true, false}
 use mathlib.Core.List.{List, [], _∷_, _++_, append-assoc, append-nil}
@@ -9,17 +9,17 @@ use lib.ListN.{length, drop, getD}
 use lib.Seq.{drop-append-seam}
 use borrow.Author.Tests.{ltb-true, ltb-false}
 use Rattle.shape.specs.Line.{line-length}
-use Rattle.reader.specs.Stored.{stored-line}
+use Rattle.lines.specs.Stored.{stored-line}
 use Rattle.shape.specs.Grammar.{Line, CouldBegin}
 use Rattle.shape.specs.Number.{numbers-of}
-use Rattle.reader.specs.Result.{refused-at}
+use Rattle.lines.specs.Result.{refused-at}
 use Rattle.shape.specs.Scan.{section-of}
 use Rattle.shape.specs.Trailer.{line-ends}
 use Rattle.reader.specs.Verdict.{MisshapenAt, Verdict, Verdict.over, Verdict.misshapen, Verdict.broken, Verdict.next}
-use Rattle.sheet.specs.declared.judge.Judged.the-variants.{Fine, Broken}
+use Rattle.sheet.specs.declared.judged.Judged.the-variants.{Fine, Broken}
 use Rattle.sheet.specs.declared.sheet.Sheet.{Sheet}
 use Rattle.sheet.specs.declared.answer.Refusal.the-variants.{Misshapen}
-use Rattle.reader.specs.declared.result.Reading.{Reading}
+use Rattle.lines.specs.declared.result.Reading.{Reading}
 use Rattle.shape.specs.declared.shape.Section.{Section}
 use Rattle.shape.specs.declared.shape.State.the-variants.{Start}
 use Rattle.shape.proofs.GrammarLaws as grammar

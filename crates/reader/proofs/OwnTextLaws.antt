@@ -23,9 +23,9 @@ use Rattle.sheet.specs.Sheet.{sized}
 use Rattle.sheet.specs.Text.{text-of}
 use Rattle.sheet.specs.declared.answer.Answer.the-variants.{Accepted}
 use Rattle.sheet.specs.declared.sheet.Sheet.{Sheet}
-use Rattle.reader.specs.Lines.{read-lines}
+use Rattle.lines.specs.Lines.{read-lines}
 use Rattle.reader.specs.Read.{read-sheet, read-trailed, read-body}
-use Rattle.reader.specs.Result.{accepted}
+use Rattle.lines.specs.Result.{accepted}
 use Rattle.reader.proofs.BodyLaws.{body-text, text-body}
 use Rattle.reader.proofs.BodyScanLaws.{clean, last-line-found}
 use Rattle.reader.proofs.ReadLaws.{read-on}

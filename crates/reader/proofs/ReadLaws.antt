@@ -1,5 +1,5 @@
 -- What the trailer's test says.
-use Prim.Native.Nat.{ℕ, _-_, _≤_}
+use Prim.Native.Nat.{ℕ, _≤_}
 use mathlib.Core.Path.{_≡_, refl, ap, _∙_}
 use mathlib.Core.Bool.{Bool, true, false, _||_}
 use native.Mathlib.Omega.{arith}
@@ -11,9 +11,9 @@ use Rattle.shape.specs.Number.{numbers-of}
 use Rattle.shape.specs.Trailer.{last-line, is-trailer}
 use Rattle.shape.specs.declared.number.Numbers.{Numbers}
 use Rattle.shape.specs.declared.trailer.LastLine.{LastLine}
-use Rattle.reader.specs.declared.result.Reading.{Reading}
+use Rattle.lines.specs.declared.result.Reading.{Reading}
 use Rattle.sheet.specs.declared.answer.Refusal.the-variants.{NoTrailer}
-use Rattle.reader.specs.Result.{refused-at}
+use Rattle.lines.specs.Result.{refused-at}
 use Rattle.reader.specs.Read.{bad-trailer, read-trailed, read-sheet}
 
 zero-one : _≡_ {A = ℕ} 0 1 → ⊥

@@ -6,9 +6,9 @@ use mathlib.Core.List.{List, [], _∷_, _++_, append-assoc}
 use native.Mathlib.Omega.{arith}
 use native.Mathlib.Nat.{le-refl}
 use lib.ListN.{length, take, getD, set, replicate}
-use Rattle.reader.specs.Lines.{read-lines, judged-line, after-judged}
-use Rattle.reader.specs.Result.{accepted}
-use Rattle.reader.specs.Stored.{stored-line, catalogue-letter}
+use Rattle.lines.specs.Lines.{read-lines, judged-line, after-judged}
+use Rattle.lines.specs.Result.{accepted}
+use Rattle.lines.specs.Stored.{stored-line, catalogue-letter}
 use Rattle.sheet.specs.Judge.{is-in, is-pair}
 use Rattle.sheet.proofs.JudgeLaws.{catalogue-passes, option-passes, ordering-passes}
 use Rattle.shape.specs.Grammar.{run, Line.line, Letter, Letter.is-C, Letter.is-X, Letter.is-F, Letter.is-U}
@@ -19,8 +19,8 @@ use Rattle.shape.specs.Scan.{section-of}
 use Rattle.sheet.specs.Sheet.{sized}
 use Rattle.shape.specs.LineText.{line-text}
 use Rattle.shape.specs.declared.number.Numbers.{Numbers}
-use Rattle.sheet.specs.declared.judge.Judged.{Judged}
-use Rattle.sheet.specs.declared.judge.Judged.the-variants.{Fine}
+use Rattle.sheet.specs.declared.judged.Judged.{Judged}
+use Rattle.sheet.specs.declared.judged.Judged.the-variants.{Fine}
 use Rattle.sheet.specs.declared.sheet.Sheet.{Sheet}
 use Rattle.sheet.specs.declared.answer.Answer.the-variants.{Accepted}
 use Rattle.shape.specs.declared.shape.Section.{Section}
@@ -29,7 +29,7 @@ use Rattle.shape.specs.declared.shape.State.the-variants.{Start, Done}
 use Rattle.shape.proofs.ReadBackLaws.{two-back, three-back, two-shaped, three-shaped}
 use Rattle.reader.proofs.BodyLaws.{entry-line, line-of, body-text}
 use Rattle.reader.proofs.BodyScanLaws.{Shaped}
-use Rattle.reader.proofs.LineLaws.{in-catalogue, in-options, in-orderings}
+use Rattle.lines.proofs.LineLaws.{in-catalogue, in-options, in-orderings}
 use Rattle.shape.proofs.GrammarLaws as grammar
 use Rattle.reader.proofs.TrimLaws.{trim, trim-none, trim-more, trim-all, trim-take}
 use Rattle.reader.proofs.VerdictLaws.{one-line}

@@ -10,24 +10,24 @@ use lib.Dec.{eqb}
 use lib.ListN.{take, drop, getD}
 use lib.Seq.{getD-set-same, getD-set-other, take-set-le}
 use Rattle.shape.specs.Line.{line-length}
-use Rattle.reader.specs.Lines.{read-lines, judged-line, after-judged, WithinLimits}
-use Rattle.reader.specs.Stored.{stored-line, catalogue-letter}
+use Rattle.lines.specs.Lines.{read-lines, judged-line, after-judged, WithinLimits}
+use Rattle.lines.specs.Stored.{stored-line, catalogue-letter}
 use Rattle.shape.specs.Number.{numbers-of}
 use Rattle.shape.specs.Scan.{section-of}
 use Rattle.sheet.specs.Recorded.{CatalogueLetter, Lengths}
 use Rattle.reader.proofs.Rule.{RowGood, Row, Rows}
 use Rattle.shape.specs.declared.number.Numbers.{Numbers}
-use Rattle.sheet.specs.declared.judge.Judged.{Judged}
-use Rattle.sheet.specs.declared.judge.Judged.the-variants.{Fine, Broken}
+use Rattle.sheet.specs.declared.judged.Judged.{Judged}
+use Rattle.sheet.specs.declared.judged.Judged.the-variants.{Fine, Broken}
 use Rattle.sheet.specs.declared.sheet.Sheet.{Sheet}
 use Rattle.sheet.specs.declared.answer.Answer.the-variants.{Accepted}
-use Rattle.reader.specs.declared.result.Reading.{Reading}
+use Rattle.lines.specs.declared.result.Reading.{Reading}
 use Rattle.shape.specs.declared.shape.Section.{Section}
 use Rattle.shape.specs.declared.shape.Section.the-variants.{Catalogue, Options, Orderings, Trailer}
-use Rattle.reader.proofs.LineLaws.{in-catalogue, in-options, in-orderings}
+use Rattle.lines.proofs.LineLaws.{in-catalogue, in-options, in-orderings}
 use Rattle.sheet.proofs.JudgeLaws.{catalogue-obeys, option-obeys, ordering-obeys}
 use Rattle.reader.proofs.StoredLaws.{stored-lengths, no-trailer}
-use Rattle.reader.specs.Result.{accepted}
+use Rattle.lines.specs.Result.{accepted}
 use Rattle.reader.proofs.AcceptLaws.{not-refused}
 
 -- a line that was passed obeys the rules

@@ -1,48 +1,19 @@
 -- The text of a record that obeys the rule is short enough.
 use Prim.Native.Nat.{ℕ, zero, suc, _+_, _-_, _*_, _≤_, _<_}
 use mathlib.Core.Path.{_≡_, subst}
-use mathlib.Core.Bool.{Bool, true, false, cond}
 use mathlib.Core.List.{[], _∷_}
 use native.Mathlib.Omega.{arith}
-use lib.Dec.{ltb}
 use lib.ListN.{length, getD, length-append}
 use borrow.Author.Tests.{lt-ltb, le-ltb}
 use Rattle.reader.proofs.Rule.{Row, Rule}
 use Rattle.shape.specs.Scan.{section-of}
-use Rattle.shape.specs.LineText.{decimal-width, line-text}
+use Rattle.shape.specs.LineText.{line-text}
 use Rattle.sheet.specs.Text.{catalogue-text, options-text, orderings-text, text-of}
 use Rattle.sheet.specs.declared.sheet.Sheet.{Sheet}
 use Rattle.shape.specs.declared.shape.Section.{Section}
 use Rattle.shape.specs.declared.shape.Section.the-variants.{Catalogue, Options, Orderings}
-use Rattle.shape.proofs.LengthLaws.{decimal-length, two-length, three-length}
+use Rattle.shape.proofs.LengthLaws.{three-digits, four-digits, five-digits, two-length, three-length}
 use Rattle.sheet.proofs.PartLaws.{text-length, trailer-length}
-
-width-three : (n : ℕ) → n ≤ 250 → decimal-width n ≤ 3
-width-three n h = rw (lt-ltb n 1000 (omega arith)) (go (ltb n 10) (ltb n 100))
-  where
-    go : (s t : Bool) → cond s 1 (cond t 2 3) ≤ 3
-    go true t = omega arith
-    go false true = omega arith
-    go false false = omega arith
-
-width-four : (n : ℕ) → n ≤ 9999 → decimal-width n ≤ 4
-width-four n h = rw (lt-ltb n 10000 (omega arith)) (go (ltb n 10) (ltb n 100) (ltb n 1000))
-  where
-    go : (s t r : Bool) → cond s 1 (cond t 2 (cond r 3 4)) ≤ 4
-    go true t r = omega arith
-    go false true r = omega arith
-    go false false true = omega arith
-    go false false false = omega arith
-
-width-five : (n : ℕ) → decimal-width n ≤ 5
-width-five n = go (ltb n 10) (ltb n 100) (ltb n 1000) (ltb n 10000)
-  where
-    go : (s t r q : Bool) → cond s 1 (cond t 2 (cond r 3 (cond q 4 5))) ≤ 5
-    go true t r q = omega arith
-    go false true r q = omega arith
-    go false false true q = omega arith
-    go false false false true = omega arith
-    go false false false false = omega arith
 
 -- the used entries of a record that obeys the rule, by section
 module _ (f u t : ℕ) (s : Sheet) (R : Rule f u t s) where
@@ -68,7 +39,7 @@ module _ (f u t : ℕ) (s : Sheet) (R : Rule f u t s) where
       let z : i + 1 - 1 ≡ i = omega arith in
       let g = rw z at (catalogue-row i (omega arith)) in
       let l = length-append (line-text (getD (s .letters) i 0) (a ∷ b ∷ [])) (catalogue-text k (i + 1) (s .letters) (s .befores) (s .afters)) in
-      omega (arith, l, two-length (getD (s .letters) i 0) a b, decimal-length a, decimal-length b, width-three a (g .1 .0 .1), width-three b (g .1 .1 .0 .1), catalogue-size k (i + 1) (omega arith))
+      omega (arith, l, two-length (getD (s .letters) i 0) a b, three-digits a (omega (arith, g .1 .0 .1)), three-digits b (omega (arith, g .1 .1 .0 .1)), catalogue-size k (i + 1) (omega arith))
 
   options-size : (k i : ℕ) → i + k ≤ s .«option_count» → length (options-text k i (s .numbers) (s .weights)) ≤ 11 * k
   unfolding options-text
@@ -79,7 +50,7 @@ module _ (f u t : ℕ) (s : Sheet) (R : Rule f u t s) where
       let z : f + i - f ≡ i = omega arith in
       let g = rw z at (option-row i (omega arith)) in
       let l = length-append (line-text 70 (a ∷ b ∷ [])) (options-text k (i + 1) (s .numbers) (s .weights)) in
-      omega (arith, l, two-length 70 a b, decimal-length a, decimal-length b, width-three a (g .0 .1), width-four b (g .1 .0), options-size k (i + 1) (omega arith))
+      omega (arith, l, two-length 70 a b, three-digits a (omega (arith, g .0 .1)), four-digits b (omega (arith, g .1 .0)), options-size k (i + 1) (omega arith))
 
   orderings-size : (k i : ℕ) → i + k ≤ s .«ordering_count» → length (orderings-text k i (s .firsts) (s .seconds) (s .«ordering_weights»)) ≤ 15 * k
   unfolding orderings-text
@@ -91,7 +62,7 @@ module _ (f u t : ℕ) (s : Sheet) (R : Rule f u t s) where
       let z : u + i - u ≡ i = omega arith in
       let g = rw z at (ordering-row i (omega arith)) in
       let l = length-append (line-text 85 (a ∷ b ∷ w ∷ [])) (orderings-text k (i + 1) (s .firsts) (s .seconds) (s .«ordering_weights»)) in
-      omega (arith, l, three-length 85 a b w, decimal-length a, decimal-length b, decimal-length w, width-three a (g .0 .1), width-three b (g .1 .0 .1), width-four w (g .1 .1 .0), orderings-size k (i + 1) (omega arith))
+      omega (arith, l, three-length 85 a b w, three-digits a (omega (arith, g .0 .1)), three-digits b (omega (arith, g .1 .0 .1)), four-digits w (omega (arith, g .1 .1 .0)), orderings-size k (i + 1) (omega arith))
 
   pub short-text : length (text-of s) ≤ 8192
   short-text =
@@ -99,9 +70,9 @@ module _ (f u t : ℕ) (s : Sheet) (R : Rule f u t s) where
         arith,
         text-length s,
         trailer-length s,
-        width-five (s .«catalogue_lines» + 1),
-        width-five (s .«catalogue_lines» + 1 + s .«option_count»),
-        width-five (s .«catalogue_lines» + 1 + s .«option_count» + s .«ordering_count»),
+        five-digits (s .«catalogue_lines» + 1) (omega (arith, R .few-catalogue, R .few-options, R .few-orderings)),
+        five-digits (s .«catalogue_lines» + 1 + s .«option_count») (omega (arith, R .few-catalogue, R .few-options, R .few-orderings)),
+        five-digits (s .«catalogue_lines» + 1 + s .«option_count» + s .«ordering_count») (omega (arith, R .few-catalogue, R .few-options, R .few-orderings)),
         catalogue-size (s .«catalogue_lines») 0 (omega arith),
         options-size (s .«option_count») 0 (omega arith),
         orderings-size (s .«ordering_count») 0 (omega arith),

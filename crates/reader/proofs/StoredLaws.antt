@@ -7,8 +7,8 @@ use native.Mathlib.Omega.{arith}
 use lib.Dec.{ltb}
 use lib.ListN.{getD, length-set, length-replicate}
 use lib.Seq.{getD-set-same, getD-set-other}
-use Rattle.reader.specs.Lines.{WithinLimits}
-use Rattle.reader.specs.Stored.{stored-line, catalogue-letter}
+use Rattle.lines.specs.Lines.{WithinLimits}
+use Rattle.lines.specs.Stored.{stored-line, catalogue-letter}
 use Rattle.shape.specs.Scan.{section-of}
 use Rattle.sheet.specs.Sheet.{sized}
 use Rattle.sheet.specs.Recorded.{Lengths}
@@ -20,7 +20,7 @@ use Rattle.shape.specs.declared.number.Numbers.{Numbers}
 use Rattle.sheet.specs.declared.sheet.Sheet.{Sheet}
 use Rattle.shape.specs.declared.shape.Section.{Section}
 use Rattle.shape.specs.declared.shape.Section.the-variants.{Catalogue, Options, Orderings, Trailer}
-use Rattle.reader.proofs.LineLaws.{in-catalogue, in-options, in-orderings}
+use Rattle.lines.proofs.LineLaws.{in-catalogue, in-options, in-orderings}
 use Rattle.shape.proofs.SplitLaws.{zero-one}
 use Rattle.shape.proofs.TextLaws.{two, three}
 

@@ -10,7 +10,7 @@ use lib.Seq.{drop-append-seam, take-append-seam}
 use borrow.Author.Tests.{lt-ltb, le-ltb, eq-eqb, ltb-true, ltb-false}
 use Rattle.shape.specs.Grammar.{run, Line.line, Letter.is-T}
 use Rattle.shape.specs.Number.{number-value, number-width, numbers-of}
-use Rattle.reader.specs.Result.{refused-at}
+use Rattle.lines.specs.Result.{refused-at}
 use Rattle.reader.specs.Read.{read-sheet, read-trailed, read-body, bad-trailer}
 use Rattle.shape.specs.Scan.{first-misshapen}
 use Rattle.sheet.specs.Sheet.{sized}
@@ -20,7 +20,7 @@ use Rattle.reader.specs.Verdict.{Verdict, EndsInTrailer, GoodTrailer, To
 use Rattle.shape.specs.declared.number.Numbers.{Numbers}
 use Rattle.shape.specs.declared.trailer.LastLine.{LastLine}
 use Rattle.sheet.specs.declared.answer.Refusal.the-variants.{SheetTooLong, NoTrailer, BadTrailer, TooManyLines}
-use Rattle.reader.specs.declared.result.Reading.{Reading}
+use Rattle.lines.specs.declared.result.Reading.{Reading}
 use Rattle.shape.specs.declared.shape.Section.the-variants.{Trailer}
 use Rattle.shape.specs.declared.shape.State.the-variants.{Start, Done}
 use Rattle.shape.proofs.ReadBackLaws.{three-back, three-shaped}

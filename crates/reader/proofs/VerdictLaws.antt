@@ -10,22 +10,22 @@ use lib.Seq.{drop-append-seam}
 use borrow.Author.Tests.{ne-eqb}
 use Rattle.shape.specs.Shape.{next-state}
 use Rattle.shape.specs.Line.{line-length}
-use Rattle.reader.specs.Lines.{read-lines, judged-line, after-judged}
-use Rattle.reader.specs.Result.{refused, refused-at}
-use Rattle.reader.specs.Stored.{stored-line}
+use Rattle.lines.specs.Lines.{read-lines, judged-line, after-judged}
+use Rattle.lines.specs.Result.{refused, refused-at}
+use Rattle.lines.specs.Stored.{stored-line}
 use Rattle.shape.specs.Grammar.{run, CouldBegin, Line}
 use Rattle.shape.specs.Number.{numbers-of}
 use Rattle.shape.specs.Scan.{section-of, misshapen-from, step-to}
 use Rattle.reader.specs.Read.{read-body}
 use Rattle.shape.specs.Trailer.{line-ends}
 use Rattle.reader.specs.Verdict.{MisshapenAt, Verdict, Verdict.over, Verdict.misshapen, Verdict.broken, Verdict.next}
-use Rattle.sheet.specs.declared.judge.Judged.{Judged}
-use Rattle.sheet.specs.declared.judge.Judged.the-variants.{Fine, Broken}
+use Rattle.sheet.specs.declared.judged.Judged.{Judged}
+use Rattle.sheet.specs.declared.judged.Judged.the-variants.{Fine, Broken}
 use Rattle.sheet.specs.declared.sheet.Sheet.{Sheet}
 use Rattle.sheet.specs.declared.answer.Refusal.the-variants.{Misshapen}
 use Rattle.sheet.specs.declared.answer.Answer.{Answer}
 use Rattle.sheet.specs.declared.answer.Answer.the-variants.{Accepted, Refused}
-use Rattle.reader.specs.declared.result.Reading.{Reading}
+use Rattle.lines.specs.declared.result.Reading.{Reading}
 use Rattle.shape.specs.declared.scan.Place.{Place}
 use Rattle.shape.specs.declared.scan.Scanned.{Scanned}
 use Rattle.shape.specs.declared.scan.Scanned.the-variants.{Clean, At}

@@ -16,9 +16,9 @@ use Rattle.sheet.specs.Sheet.{sized}
 use Rattle.sheet.specs.declared.answer.Answer.the-variants.{Accepted, Refused}
 use Rattle.sheet.specs.declared.answer.Refusal.the-variants.{SheetTooLong, NoTrailer, BadTrailer, Misshapen, TooManyLines}
 use Rattle.sheet.specs.declared.sheet.Sheet.{Sheet}
-use Rattle.reader.specs.Lines.{read-lines}
-use Rattle.reader.specs.Result.{refused-at}
-use Rattle.reader.specs.declared.result.Reading.{Reading}
+use Rattle.lines.specs.Lines.{read-lines}
+use Rattle.lines.specs.Result.{refused-at}
+use Rattle.lines.specs.declared.result.Reading.{Reading}
 
 -- the lines before the trailer, after the scan for the first misshapen one: the lines before that are judged, and then it is refused
 unfoldable pub read-body : ℕ → ℕ → List ℕ → Sheet → ℕ → Scanned → Reading

@@ -15,12 +15,12 @@ use Rattle.sheet.specs.Limits.{max-bytes, catalogue-limit, option-limit, orderi
 use Rattle.sheet.specs.Sheet.{sized}
 use Rattle.sheet.specs.declared.answer.Refusal.{Refusal}
 use Rattle.sheet.specs.declared.answer.Refusal.the-variants.{SheetTooLong, NoTrailer, BadTrailer, Misshapen, TooManyLines}
-use Rattle.sheet.specs.declared.judge.Judged.the-variants.{Fine, Broken}
+use Rattle.sheet.specs.declared.judged.Judged.the-variants.{Fine, Broken}
 use Rattle.sheet.specs.declared.sheet.Sheet.{Sheet}
-use Rattle.reader.specs.Lines.{judged-line}
-use Rattle.reader.specs.Result.{accepted, refused-at}
-use Rattle.reader.specs.Stored.{stored-line}
-use Rattle.reader.specs.declared.result.Reading.{Reading}
+use Rattle.lines.specs.Lines.{judged-line}
+use Rattle.lines.specs.Result.{accepted, refused-at}
+use Rattle.lines.specs.Stored.{stored-line}
+use Rattle.lines.specs.declared.result.Reading.{Reading}
 
 -- 4: column c of the line that l begins with holds b, the first byte that, after the bytes before it, no well-shaped line of that
 -- section could have there
@@ -34,7 +34,7 @@ pub record MisshapenAt (sec : Section) (l : List ℕ) (c b : ℕ) : Type 0 where
   pub column : c ≡ suc (length front)
 
 -- the lines from line 1: of k lines from line n on, with the record of the lines before, the place is that of the first line that
--- breaks a rule
+-- breaks a rule. `judged-line` tells the first rule that a line's numbers break, in the order 5, 8, 7, 9, 10 (`LineBreaks` has them)
 pub data Verdict (f u : ℕ) : ℕ → ℕ → List ℕ → Sheet → Reading → Type 0 where
   over : {n : ℕ} {l : List ℕ} {s : Sheet} → Verdict f u zero n l s (accepted s)
   misshapen : {k n c b : ℕ} {l : List ℕ} {s : Sheet} → MisshapenAt (section-of f u n) l c b → Verdict f u (suc k) n l s (refused-at Misshapen n c)

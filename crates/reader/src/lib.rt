@@ -1,7 +1,5 @@
 // Reading an order sheet into its record.
-mod lines;
 mod reading;
-mod result;
 
+pub use lines::Reading;
 pub use reading::read;
-pub use result::Reading;

@@ -1,7 +1,7 @@
 // Reading a sheet: 1, 2, 3, then 6, then the lines from line 1.
-use crate::lines::read_lines;
-use crate::result::Reading;
-use crate::result::refused;
+use lines::Reading;
+use lines::read_lines;
+use lines::refused;
 use shape::Place;
 use shape::Scanned;
 use shape::first_misshapen;
@@ -17,7 +17,7 @@ ghost use lib.ListN.{length, take};
 ghost use Rattle.shape.specs.Scan.{first-misshapen};
 ghost use Rattle.shape.specs.Trailer.{line-ends};
 ghost use Rattle.sheet.specs.Sheet.{sized};
-ghost use Rattle.reader.specs.Lines.{WithinLimits};
+ghost use Rattle.lines.specs.Lines.{WithinLimits};
 ghost use Rattle.reader.specs.Read.{read-body, bad-trailer, read-trailed, read-sheet};
 
 // Whether the trailer on line n breaks 1 ≤ f ≤ u ≤ t, or t is not n.

@@ -1,6 +1,6 @@
 -- The text of the report.
-use Prim.Native.Nat.{ℕ, zero, suc, _+_}
-use mathlib.Core.Bool.{Bool, true, false}
+use Prim.Native.Nat.{ℕ, _+_}
+use mathlib.Core.Bool.{Bool}
 use mathlib.Core.List.{List, [], _∷_, _++_}
 use mathlib.Core.Option.{Option, none, some}
 use lib.ListN.{length, getD}
@@ -17,12 +17,8 @@ use Rattle.sheet.specs.declared.answer.Answer.{Answer}
 use Rattle.sheet.specs.declared.answer.Answer.the-variants.{Accepted, Refused}
 use Rattle.sheet.specs.declared.sheet.Sheet.{Sheet}
 use Rattle.reader.specs.Read.{read-sheet}
-use Rattle.report.specs.Line.{line-text}
-
--- The lines of n places or slots, one after the other.
-unfoldable pub each : ℕ → (ℕ → List ℕ) → List ℕ
-each zero line = []
-each (suc n) line = each n line ++ line n
+use Rattle.listing.specs.Listing.{each, unless}
+use Rattle.shape.specs.LineText.{line-text}
 
 -- "`V value ceiling`"
 abbrev pub value-text : R.Answer → List ℕ
@@ -35,11 +31,6 @@ place-text places i = line-text 83 ((i + 1) ∷ getD places i 0 ∷ [])
 abbrev pub sequence-text : Option (List ℕ) → List ℕ
 sequence-text none = []
 sequence-text (some places) = each (length places) (place-text places)
-
--- A line, unless a test passes.
-abbrev pub unless : Bool → List ℕ → List ℕ
-unless true line = []
-unless false line = line
 
 abbrev no-ordering : OrderingLine
 no-ordering = record { first = 0; second = 0; weight = 0 }

@@ -1,15 +1,9 @@
-pub mod Line
-pub mod Appended
-pub mod Number
-pub mod Printed
-pub mod Each
 pub mod Copied
 pub mod Chosen
 pub mod Places
 pub mod Best
 pub mod Parts
 pub mod Reading
-pub mod Length
 pub mod Place
 pub mod Short
 pub mod Answer

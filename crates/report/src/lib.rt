@@ -1,6 +1,4 @@
 // The report of a sheet, in a lent buffer.
-mod line;
-mod lists;
 mod page;
 mod reporting;
 

@@ -1,50 +1,25 @@
 // The whole report on a page.
-use crate::line::put_three;
-use crate::line::put_two;
-use crate::lists::put_options;
-use crate::lists::put_orderings;
-use crate::lists::put_places;
+use listing::put_options;
+use listing::put_orderings;
+use listing::put_places;
+use print::put_three;
+use print::put_two;
 use shape::Place;
 use sheet::Answer;
 use sheet::Refusal;
 use sheet::Sheet;
-ghost use mathlib.Core.Path.{_≡_};
 ghost use Rattle.rules.specs.Results.{answer-at-nought};
-ghost use Rattle.sheet.specs.Answer.{number-of};
 ghost use Rattle.sheet.specs.Recorded.{Recorded};
 ghost use Rattle.sheet.specs.Lines.{lines-of};
 ghost use Rattle.report.specs.Report.{answer-text, refusal-text, report-of};
-ghost use Rattle.report.specs.Appended.{Room, Appended};
-
-// The number of a refusal.
-pub fn number_of(why: Refusal) -> usize
-    ensures { λ r. ⌜ r ≡ number-of why ⌝ }
-{
-    match why {
-        Refusal::SheetTooLong => 1,
-        Refusal::NoTrailer => 2,
-        Refusal::BadTrailer => 3,
-        Refusal::Misshapen => 4,
-        Refusal::OutsideRange => 5,
-        Refusal::TooManyLines => 6,
-        Refusal::SubscribedTwice => 7,
-        Refusal::OneOptionTwice => 8,
-        Refusal::NotSubscribed => 9,
-        Refusal::SamePairAgain => 10,
-        Refusal::ToleranceTooLarge => 11,
-        Refusal::NotRecorded => 12,
-        Refusal::OutputTooShort => 13,
-        Refusal::WrongDecisions => 14,
-        Refusal::NotConsistent => 15,
-    }
-}
+ghost use Rattle.listing.specs.Appended.{Room, Appended};
 
 // Prints the line of a refused sheet.
 pub fn put_refusal(page: &mut [u8], place: Place, why: Refusal) -> usize
     requires { ⌜ Room (now page) 0 (refusal-text place why) ⌝ }
     ensures { λ r. ⌜ Appended (now (page .entry)) (now (page .exit)) 0 r (refusal-text place why) ⌝ }
 {
-    let number = number_of(why);
+    let number = sheet::number_of(why);
     put_three(page, 0, 69, number, place.line, place.column)
 }
 

@@ -8,7 +8,7 @@ pub use tests::either;
 pub use tests::neither;
 pub use tests::opposite;
 ghost use mathlib.Core.Path.{_≡_};
-ghost use Prim.Native.Nat.{ℕ, _+_, _*_, _≤_, _<_};
+ghost use Prim.Native.Nat.{_<_};
 ghost use Rattle.rows.specs.Bits.{has, joined, met, with, with-if, joined-if, turned};
 
 // Whether the row holds slot i.

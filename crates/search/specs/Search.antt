@@ -13,13 +13,14 @@ use Rattle.given.specs.Given.{choice-of, undecided}
 use Rattle.half.specs.Filled.{filled}
 use Rattle.sheet.specs.Decisions.{all-open}
 use Rattle.sheet.specs.IsRecorded.{is-recorded}
+use Rattle.sheet.specs.Limits.{largest-value}
 use Rattle.sheet.specs.Lines.{lines-of}
 use Rattle.sheet.specs.declared.answer.Refusal.{Refusal}
 use Rattle.sheet.specs.declared.answer.Refusal.the-variants.{NotRecorded, ToleranceTooLarge}
 use Rattle.sheet.specs.declared.answer.Answer.the-variants.{Accepted, Refused}
 use Rattle.sheet.specs.declared.sheet.Sheet.{Sheet}
-use Rattle.settle.specs.Arrays.{ShowsSheet}
-use Rattle.settle.specs.Sets.{chosen-list}
+use Rattle.keeping.specs.Arrays.{ShowsSheet}
+use Rattle.keeping.specs.Sets.{chosen-list}
 use Rattle.search.specs.declared.found.Found.{Found}
 use Rattle.search.specs.declared.sheet_search.Searched.{Searched}
 
@@ -51,8 +52,8 @@ Answers s tolerance r = (a : R.Answer) × AnswerTo (lines-of s) tolerance a × (
 -- "Search: 12, 11", and otherwise an answer.
 pub record SearchedAs (s : Sheet) (tolerance : ℕ) (r : Searched) : Type 0 where
   pub not-recorded : is-recorded s ≡ false → r ≡ refused NotRecorded
-  pub too-large : is-recorded s ≡ true → 959904 < tolerance → r ≡ refused ToleranceTooLarge
-  pub answer : is-recorded s ≡ true → tolerance ≤ 959904 → Answers s tolerance r
+  pub too-large : is-recorded s ≡ true → largest-value < tolerance → r ≡ refused ToleranceTooLarge
+  pub answer : is-recorded s ≡ true → tolerance ≤ largest-value → Answers s tolerance r
 
 -- ---- the same with sets, for the functions inside
 unfoldable pub accepted : Found → ℕ → ℕ → Searched

@@ -1,7 +1,3 @@
-pub mod First
-pub mod Items
-pub mod Steps
-pub mod Values
-pub mod Whole
+pub mod Found
 pub mod Answered
 pub mod Searched

@@ -1,13 +1,13 @@
 // What a whole search comes to.
-use crate::bounds::bounds_of;
-use crate::branch::branch;
-use crate::so_far::nothing_found;
-use crate::so_far::worth;
-use settle::nothing_given;
+use branch::branch;
+use keeping::nothing_given;
+use so_far::nothing_found;
+use so_far::worth;
+use value::bounds_of;
 ghost use mathlib.Core.Path.{_≡_};
-ghost use Prim.Native.Nat.{ℕ, _+_, _-_, _≤_, _<_, min};
-ghost use lib.ListN.{length};
-ghost use Rattle.settle.specs.Arrays.{Arrays};
+ghost use Prim.Native.Nat.{_≤_, min};
+ghost use Rattle.sheet.specs.Limits.{largest-value};
+ghost use Rattle.keeping.specs.Arrays.{Arrays};
 ghost use Rattle.search.specs.Search.{FoundBy};
 
 // The relaxation that answers, as sets, with its value and the ceiling.
@@ -35,7 +35,7 @@ pub fn found_in<'a>(
     n: usize,
     m: usize,
 ) -> Found
-    requires { ⌜ Arrays n m (now first) (now second) t (now weights) (now «ordering_weights») × (tolerance ≤ 959904) ⌝ }
+    requires { ⌜ Arrays n m (now first) (now second) t (now weights) (now «ordering_weights») × (tolerance ≤ largest-value) ⌝ }
     ensures { λ r. ⌜ FoundBy n m (now (first .entry)) (now (second .entry)) t (now (weights .entry)) (now («ordering_weights» .entry)) tolerance r ⌝ }
 {
     let bounds = bounds_of(tolerance, t, first, second, weights, ordering_weights, n, m);

@@ -3,14 +3,14 @@ use crate::found::Found;
 use crate::found::found_in;
 use shape::Place;
 use sheet::Answer;
-use sheet::Choice;
 use sheet::Decisions;
 use sheet::Refusal;
 use sheet::Sheet;
 ghost use mathlib.Core.Path.{_≡_};
-ghost use Prim.Native.Nat.{ℕ, _+_, _≤_, _<_};
+ghost use Prim.Native.Nat.{_≤_};
 ghost use mathlib.Core.Bool.{true};
 ghost use Rattle.sheet.specs.IsRecorded.{is-recorded};
+ghost use Rattle.sheet.specs.Limits.{largest-value};
 ghost use Rattle.search.specs.Search.{refused, accepted, Answers, SearchedAs};
 
 // The answer: kept or dropped for every item within the counts, open past them; the relaxation's value and a ceiling.
@@ -61,7 +61,7 @@ pub fn accepted(f: Found, n: usize, m: usize) -> Searched
 
 // The search of a record that an accepted sheet gives.
 pub fn answer_of(s: Sheet, tolerance: u32) -> Searched
-    requires { ⌜ (is-recorded s ≡ true) × (tolerance ≤ 959904) ⌝ }
+    requires { ⌜ (is-recorded s ≡ true) × (tolerance ≤ largest-value) ⌝ }
     ensures { λ r. ⌜ Answers s tolerance r ⌝ }
 {
     let n = s.option_count;
@@ -86,10 +86,10 @@ pub fn answer_of(s: Sheet, tolerance: u32) -> Searched
 pub fn search(s: Sheet, tolerance: u32) -> Searched
     ensures { λ r. ⌜ SearchedAs s tolerance r ⌝ }
 {
-    if !sheet::is_recorded(s) {
+    if !record::is_recorded(s) {
         return refused(Refusal::NotRecorded);
     }
-    if 959904 < tolerance {
+    if Sheet::LARGEST_VALUE < tolerance {
         return refused(Refusal::ToleranceTooLarge);
     }
     answer_of(s, tolerance)

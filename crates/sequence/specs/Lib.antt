@@ -1,5 +1,3 @@
-pub mod Edges
-pub mod Next
 pub mod Padded
 pub mod Sequenced
 pub mod Answer

@@ -1,7 +1,7 @@
 -- Numbers place by place, zeros past the last.
 use mathlib.Core.List.{List, [], _∷_}
 use Prim.Native.Nat.{ℕ, zero, suc}
-use Rattle.sequence.specs.Next.{number}
+use Rattle.placing.specs.Next.{number}
 use Rattle.sheet.specs.declared.count.Number.{Number}
 
 -- The first k places: the numbers of a list, then zeros.

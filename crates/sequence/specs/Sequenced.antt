@@ -11,7 +11,7 @@ use Rattle.graph.specs.Shown.{counted, Shows}
 use Rattle.rules.specs.Results.{placed, acyclic, lacks-an-option}
 use Rattle.rules.specs.Sequence.{precedes, kept-slots}
 use Rattle.rules.specs.Relaxation.{KeptBySlot}
-use Rattle.sequence.specs.Next.{number}
+use Rattle.placing.specs.Next.{number}
 use Rattle.sequence.specs.Padded.{places-of}
 use Rattle.given.specs.declared.sets.Given.{Given}
 use Rattle.sequence.specs.declared.whole.Placed.{Placed}

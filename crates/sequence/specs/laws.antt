@@ -1,7 +1,3 @@
-pub mod Edges
-pub mod Next
-pub mod Slots
-pub mod Placed
 pub mod Padded
 pub mod Same
 pub mod Sequenced

@@ -33,7 +33,7 @@ pub fn sequence(sheet: Sheet, decisions: Decisions) -> Sequenced
 {
     let n = sheet.option_count;
     let m = sheet.ordering_count;
-    if !sheet::is_recorded(sheet) {
+    if !record::is_recorded(sheet) {
         return refused(Refusal::NotRecorded);
     }
     if given::has_decision_past(decisions, n, m) {

@@ -1,7 +1,5 @@
 // The sequence of a chosen relaxation.
 mod answer;
-mod edges;
-mod place;
 mod whole;
 
 pub use answer::Sequenced;

@@ -1,12 +1,12 @@
 // The sequence of a full decision, from what is given.
-use crate::edges::between_kept;
-use crate::edges::has_cycle;
-use crate::edges::lacks_option;
-use crate::place::place_all;
 use given::Given;
+use placing::between_kept;
+use placing::has_cycle;
+use placing::lacks_option;
+use placing::place_all;
 use sheet::Number;
 ghost use mathlib.Core.Path.{_≡_};
-ghost use Prim.Native.Nat.{ℕ, _+_, _≤_, _<_};
+ghost use Prim.Native.Nat.{_≤_};
 ghost use lib.ListN.{length};
 ghost use Rattle.graph.specs.Graph.{EndsAreSlots};
 ghost use Rattle.sequence.specs.Sequenced.{not-consistent, PlacedBy};

@@ -1,5 +1,2 @@
-pub mod Arrays
-pub mod Sets
-pub mod Keeping
 pub mod Settled
 pub mod laws

@@ -1,6 +1,5 @@
-pub mod Shown
-pub mod Apart
+pub mod Opened
 pub mod Forcing
-pub mod Keeping
 pub mod Keepable
 pub mod Stepping
+pub mod Items

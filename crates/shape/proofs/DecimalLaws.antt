@@ -6,8 +6,10 @@ use native.Mathlib.Omega.{arith}
 use lib.ListN.{length}
 use borrow.Author.Tests.{lt-ltb, le-ltb}
 use Rattle.shape.specs.Number.{number-value, number-width}
-use Rattle.shape.specs.LineText.{last-digits, decimal-width, decimal}
+use Rattle.shape.specs.LineText.{decimal}
 use Rattle.shape.specs.Grammar.{Digits, Numeral, Digits.none, Digits.more, Numeral.nought, Numeral.long}
+use Rattle.shape.proofs.DigitLaws.{last-digits, decimal-digits}
+use Rattle.shape.proofs.LengthLaws.{w1, w2, w3, w4, w5}
 
 -- the value of a list of digits, after a number v
 unfoldable pub val : ℕ → List ℕ → ℕ
@@ -35,30 +37,15 @@ digits-val k j v (b ∷ d) (more p q ds) e =
     let f : k ≡ length d + suc j = omega arith in
     digits-val k (suc j) w d ds f ∙ rw (x, y) (append-assoc (last-digits j v) (b ∷ []) d)
 
-pub w1 : (n : ℕ) → n < 10 → decimal-width n ≡ 1
-w1 n h = rw (lt-ltb n 10 h)
-
-pub w2 : (n : ℕ) → 10 ≤ n → n < 100 → decimal-width n ≡ 2
-w2 n g h = rw (le-ltb n 10 g, lt-ltb n 100 h)
-
-pub w3 : (n : ℕ) → 100 ≤ n → n < 1000 → decimal-width n ≡ 3
-w3 n g h = rw (le-ltb n 10 (omega arith), le-ltb n 100 g, lt-ltb n 1000 h)
-
-pub w4 : (n : ℕ) → 1000 ≤ n → n < 10000 → decimal-width n ≡ 4
-w4 n g h = rw (le-ltb n 10 (omega arith), le-ltb n 100 (omega arith), le-ltb n 1000 g, lt-ltb n 10000 h)
-
-pub w5 : (n : ℕ) → 10000 ≤ n → decimal-width n ≡ 5
-w5 n g = rw (le-ltb n 10 (omega arith), le-ltb n 100 (omega arith), le-ltb n 1000 (omega arith), le-ltb n 10000 g)
-
 -- a number has as many digits as its value
-width-val : (a : List ℕ) → Numeral a → decimal-width (val 0 a) ≡ length a
+width-val : (a : List ℕ) → Numeral a → length (decimal (val 0 a)) ≡ length a
 unfolding val
-width-val a nought = refl
+width-val a nought = w1 0 (omega arith)
 width-val a (long {b = x} {bs = []} lo hi ds n) = w1 (val 0 (x ∷ [])) (omega arith)
 width-val a (long {b = x} {bs = y ∷ []} lo hi (more p q ds) n) = w2 (val 0 (x ∷ y ∷ [])) (omega arith) (omega arith)
 width-val a (long {b = x} {bs = y ∷ z ∷ []} lo hi (more p q (more r s ds)) n) = w3 (val 0 (x ∷ y ∷ z ∷ [])) (omega arith) (omega arith)
 width-val a (long {b = x} {bs = y ∷ z ∷ v ∷ []} lo hi (more p q (more r s (more t u ds))) n) = w4 (val 0 (x ∷ y ∷ z ∷ v ∷ [])) (omega arith) (omega arith)
-width-val a (long {b = x} {bs = y ∷ z ∷ v ∷ w ∷ []} lo hi (more p q (more r s (more t u (more i j ds)))) n) = w5 (val 0 (x ∷ y ∷ z ∷ v ∷ w ∷ [])) (omega arith)
+width-val a (long {b = x} {bs = y ∷ z ∷ v ∷ w ∷ []} lo hi (more p q (more r s (more t u (more i j ds)))) n) = w5 (val 0 (x ∷ y ∷ z ∷ v ∷ w ∷ [])) (omega arith) (omega arith)
 width-val a (long {b = x} {bs = y ∷ z ∷ v ∷ w ∷ k ∷ l} lo hi ds n) = absurd (omega arith)
 
 pub number-digits : {a : List ℕ} → Numeral a → (length a ≤ 5) × Digits a
@@ -72,9 +59,8 @@ number-digits (long {b = x} lo hi ds n) =
 
 -- read back and written out
 pub number-text : (a : List ℕ) (c : ℕ) (r : List ℕ) → Numeral a → c < 48 → (a ≡ decimal (number-value 5 0 (a ++ c ∷ r))) × (number-width 5 (a ++ c ∷ r) ≡ length a)
-unfolding decimal
 number-text a c r n lo =
     let d = number-digits n in
     let e = num-val 5 0 c a r (d .1) (d .0) lo in
     let z : length a ≡ length a + 0 = omega arith in
-    (sym (rw (e .0, width-val a n) (digits-val (length a) 0 0 a (d .1) z)), e .1)
+    (sym (ap decimal (e .0) ∙ decimal-digits (val 0 a) ∙ ap (λ (k : ℕ). last-digits k (val 0 a)) (width-val a n) ∙ digits-val (length a) 0 0 a (d .1) z), e .1)

@@ -1,4 +1,5 @@
 pub mod DecimalLaws
+pub mod DigitLaws
 pub mod GrammarLaws
 pub mod LengthLaws
 pub mod LineEndLaws

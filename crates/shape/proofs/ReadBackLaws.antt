@@ -8,12 +8,13 @@ use lib.Dec.{ltb}
 use lib.ListN.{length, drop, length-append}
 use lib.Seq.{drop-drop, drop-append-add}
 use borrow.Author.Tests.{ltb-true, ltb-false}
-use Rattle.shape.specs.Grammar.{Digits, Numeral, Fields, Line.line, Digits.none, Digits.more, Numeral.nought, Numeral.long, Fields.end, Fields.field}
+use Rattle.shape.specs.Grammar.{Digits, Numeral, Fields, Digits.none, Digits.more, Numeral.nought, Numeral.long, Fields.end, Fields.field}
 use Rattle.shape.specs.Number.{number-value, number-width, numbers-of}
-use Rattle.shape.specs.LineText.{last-digits, decimal-width, decimal, fields-text, line-text}
-use Rattle.shape.proofs.DecimalLaws.{val, num-val, number-digits, w1, w2, w3, w4, w5}
+use Rattle.shape.specs.LineText.{digits, decimal, fields-text, line-text}
+use Rattle.shape.proofs.DecimalLaws.{val, num-val, number-digits}
 use Rattle.shape.proofs.NumberLaws.{cap}
-use Rattle.shape.proofs.LengthLaws.{decimal-digits}
+use Rattle.shape.proofs.DigitLaws.{last-digits, decimal-digits}
+use Rattle.shape.proofs.LengthLaws.{w1, w2, w3, w4, w5}
 
 digits-more : (a : List ℕ) (b : ℕ) → Digits a → 48 ≤ b → b ≤ 57 → Digits (a ++ (b ∷ []))
 digits-more [] b none p q = more p q none
@@ -66,13 +67,13 @@ begun-number k l h b =
 abbrev Printed : ℕ → List ℕ → Type 0
 Printed n l = Numeral l × (val 0 l ≡ n)
 
-by-width : (k n : ℕ) → decimal-width n ≡ suc k → k ≤ 4 → cap k < n → n ≤ cap (suc k) → Printed n (decimal n)
+by-width : (k n : ℕ) → length (decimal n) ≡ suc k → k ≤ 4 → cap k < n → n ≤ cap (suc k) → Printed n (decimal n)
 by-width k n w j g h =
-    rw (decimal-digits n, w) (begun-number k (last-digits (suc k) n) j (begun k n g h), val-digits (suc k) n h)
+    subst (Printed n) (sym (decimal-digits n ∙ ap (λ (i : ℕ). last-digits i n) w)) (begun-number k (last-digits (suc k) n) j (begun k n g h), val-digits (suc k) n h)
 
 -- a printed number is a number of the grammar with its own value
 pub printed : (n : ℕ) → n ≤ 99999 → Printed n (decimal n)
-unfolding cap decimal val
+unfolding cap digits decimal val
 printed n h = one (ltb n 10) refl
   where
     four : (t : Bool) → ltb n 10000 ≡ t → 1000 ≤ n → Printed n (decimal n)
@@ -81,7 +82,7 @@ printed n h = one (ltb n 10) refl
         by-width 3 n (w4 n g l) (omega arith) (omega arith) (omega arith)
     four false e g =
         let l = ltb-false n 10000 e in
-        by-width 4 n (w5 n l) (omega arith) (omega arith) (omega arith)
+        by-width 4 n (w5 n l (omega arith)) (omega arith) (omega arith) (omega arith)
 
     three : (t : Bool) → ltb n 1000 ≡ t → 100 ≤ n → Printed n (decimal n)
     three true e g =

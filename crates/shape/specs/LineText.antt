@@ -1,21 +1,22 @@
 -- The text of a number and of a line.
-use Prim.Native.Nat.{ℕ, zero, suc, _+_, _-_, _/_, _%_}
-use mathlib.Core.Bool.{cond}
+use Prim.Native.Nat.{ℕ, zero, suc, _+_, _/_, _%_}
+use mathlib.Core.Bool.{Bool, true, false}
 use mathlib.Core.List.{List, [], _∷_, _++_}
 use lib.Dec.{ltb}
 
--- the last k digits of n
-abbrev pub last-digits : ℕ → ℕ → List ℕ
-last-digits zero n = []
-last-digits (suc k) n = last-digits k (n / 10) ++ ((48 + n % 10) ∷ [])
+-- nothing before a number's first digit
+abbrev pub unless-first : Bool → (ℕ → List ℕ) → ℕ → List ℕ
+unless-first true before n = []
+unless-first false before n = before n
 
--- how many digits a number below 100,000 has
-abbrev pub decimal-width : ℕ → ℕ
-decimal-width n = cond (ltb n 10) 1 (cond (ltb n 100) 2 (cond (ltb n 1000) 3 (cond (ltb n 10000) 4 5)))
+-- the digits of n, at most k of them
+unfoldable pub digits : ℕ → ℕ → List ℕ
+digits zero n = []
+digits (suc k) n = unless-first (ltb n 10) (digits k) (n / 10) ++ ((48 + n % 10) ∷ [])
 
--- a number without leading zeros
+-- a number of any size in decimal, without a leading 0: n + 1 digits are room enough for any n
 unfoldable pub decimal : ℕ → List ℕ
-decimal n = last-digits (decimal-width n) n
+decimal n = digits (suc n) n
 
 -- each number after a space, and the line end
 abbrev pub fields-text : List ℕ → List ℕ

@@ -10,8 +10,8 @@ use Rattle.shape.specs.declared.number.Numbers.{Numbers}
 use Rattle.sheet.specs.Judge.{is-in, is-pair, no-option, judge-catalogue-line, judge-option, judge-ordering}
 use Rattle.sheet.specs.Recorded.{OptionNumber}
 use Rattle.sheet.specs.declared.answer.Refusal.{Refusal}
-use Rattle.sheet.specs.declared.judge.Judged.{Judged}
-use Rattle.sheet.specs.declared.judge.Judged.the-variants.{Fine, Broken}
+use Rattle.sheet.specs.declared.judged.Judged.{Judged}
+use Rattle.sheet.specs.declared.judged.Judged.the-variants.{Fine, Broken}
 
 zero-one : _≡_ {A = ℕ} 0 1 → ⊥
 zero-one e = omega arith
@@ -29,6 +29,13 @@ inside x e = go (eqb x 0) refl e
     go false p q =
         let n = eqb-false x 0 p in
         (omega (arith, n), ltb-false 250 x q)
+
+pub outside : (x : ℕ) → (OptionNumber x → ⊥) → no-option x ≡ true
+outside x n = go (no-option x) refl
+  where
+    go : (t : Bool) → no-option x ≡ t → t ≡ true
+    go true p = refl
+    go false p = absurd (n (inside x p))
 
 known : (s t r : Bool) (k k′ k″ : Refusal) (c c′ c″ : ℕ) → cond s (cond t (cond r (Broken k c) Fine) (Broken k′ c′)) (Broken k″ c″) ≡ Fine → (s ≡ true) × ((t ≡ true) × (r ≡ false))
 known true true true k k′ k″ c c′ c″ e = absurd (zero-one (cc))

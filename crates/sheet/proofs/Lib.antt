@@ -1,7 +1,7 @@
-pub mod CheckTurnLaws
+pub mod AnswerLaws
+pub mod BreaksLaws
 pub mod JudgeLaws
 pub mod LinesLaws
-pub mod ListTurnLaws
 pub mod ObeyLaws
 pub mod PartLaws
 pub mod PassLaws

@@ -2,26 +2,42 @@
 use Prim.Native.Nat.{ℕ, zero, suc, _+_, _-_, _≤_, _<_}
 use mathlib.Core.Logic.{⊎-elim, inl, inr}
 use mathlib.Core.Path.{_≡_, refl, sym, ap, subst, _∙_}
-use mathlib.Core.Bool.{Bool, true, false, _||_}
+use mathlib.Core.Bool.{Bool, true, false, _&&_, _||_, not}
 use mathlib.Core.List.{List, [], _∷_}
 use native.Mathlib.Omega.{arith}
 use native.Mathlib.Nat.{eq-or-lt-of-le}
 use lib.Dec.{eqb, ltb}
 use lib.ListN.{length, take, drop, getD}
 use lib.Seq.{getD-drop}
-use borrow.Author.Tests.{eqb-true, ltb-true, ltb-false}
+use borrow.Author.Tests.{eqb-true, ltb-true, ltb-false, not-true}
 use Rattle.sheet.specs.IsRecorded.{is-fine, is-letter, entry-numbers, catalogue-fine, options-fine, orderings-fine, all-zero, within-limits, catalogue-recorded, options-recorded, orderings-recorded, is-recorded}
+use Rattle.sheet.specs.Limits.{catalogue-limit, option-limit, ordering-limit}
 use Rattle.sheet.specs.Judge.{judge-catalogue-line, judge-option, judge-ordering}
 use Rattle.sheet.specs.Recorded.{CatalogueLetter, letter, before, after, number, weight, first, second, ordering-weight, Lengths, Recorded}
-use Rattle.sheet.specs.declared.judge.Judged.{Judged}
-use Rattle.sheet.specs.declared.judge.Judged.the-variants.{Fine, Broken}
+use Rattle.sheet.specs.declared.judged.Judged.{Judged}
+use Rattle.sheet.specs.declared.judged.Judged.the-variants.{Fine, Broken}
 use Rattle.sheet.specs.declared.sheet.Sheet.{Sheet}
-use Rattle.sheet.proofs.CheckTurnLaws.{both, recorded-limits}
 use Rattle.sheet.proofs.JudgeLaws.{CatalogueObeys, OptionObeys, OrderingObeys, catalogue-obeys, option-obeys, ordering-obeys}
 use Rattle.sheet.proofs.SlotLaws.{in-slot-of, not-in-slots, pair-not-in-slots}
 
 zero-one : _≡_ {A = ℕ} 0 1 → ⊥
 zero-one e = omega arith
+
+both : (a b : Bool) → (a && b) ≡ true → (a ≡ true) × (b ≡ true)
+both true b e = (refl, e)
+both false b e = absurd (zero-one (cc))
+
+-- no section has too many lines
+pub limits-kept : (c o r : ℕ) → within-limits c o r ≡ true → (c ≤ catalogue-limit) × ((o ≤ option-limit) × (r ≤ ordering-limit))
+limits-kept c o r e =
+    let p = both (not (ltb catalogue-limit c)) _ e in
+    let q = both (not (ltb option-limit o)) _ (p .1) in
+    (ltb-false catalogue-limit c (not-true _ (p .0)), (ltb-false option-limit o (not-true _ (q .0)), ltb-false ordering-limit r (not-true _ (q .1))))
+
+pub recorded-limits : (s : Sheet) → is-recorded s ≡ true
+    → (s .«catalogue_lines» ≤ catalogue-limit) × ((s .«option_count» ≤ option-limit) × (s .«ordering_count» ≤ ordering-limit))
+unfolding is-recorded
+recorded-limits s e = limits-kept _ _ _ (both (within-limits (s .«catalogue_lines») (s .«option_count») (s .«ordering_count»)) _ e .0)
 
 fine-of : (v : Judged) → is-fine v ≡ true → v ≡ Fine
 fine-of Fine e = refl

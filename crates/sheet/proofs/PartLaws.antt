@@ -1,13 +1,13 @@
 -- The text of a record is its three sections and its trailer.
-use Prim.Native.Nat.{ℕ, _+_, _-_}
+use Prim.Native.Nat.{ℕ, _+_}
 use mathlib.Core.Path.{_≡_, refl, ap, _∙_}
 use mathlib.Core.List.{List, _++_}
 use native.Mathlib.Omega.{arith}
 use lib.ListN.{length, length-append}
-use Rattle.shape.specs.LineText.{decimal-width}
+use Rattle.shape.specs.LineText.{decimal}
 use Rattle.sheet.specs.Text.{catalogue-text, options-text, orderings-text, trailer-text, text-of}
 use Rattle.sheet.specs.declared.sheet.Sheet.{Sheet}
-use Rattle.shape.proofs.LengthLaws.{decimal-length, three-length}
+use Rattle.shape.proofs.LengthLaws.{three-length}
 
 module _ (s : Sheet) where
   abbrev pub catalogue-of : List ℕ
@@ -31,12 +31,5 @@ module _ (s : Sheet) where
       ap length text-parts ∙ length-append catalogue-of _ ∙ ap (λ (k : ℕ). length catalogue-of + k) (length-append options-of _ ∙ ap (λ (k : ℕ). length options-of + k) (length-append orderings-of trailer-of))
       ∙ (omega arith)
 
-  pub trailer-length : length trailer-of ≡ 5 + decimal-width (s .«catalogue_lines» + 1) + decimal-width (s .«catalogue_lines» + 1 + s .«option_count») + decimal-width (s .«catalogue_lines» + 1 + s .«option_count» + s .«ordering_count»)
-  trailer-length =
-      omega (
-        arith,
-        three-length 84 (s .«catalogue_lines» + 1) (s .«catalogue_lines» + 1 + s .«option_count») (s .«catalogue_lines» + 1 + s .«option_count» + s .«ordering_count»),
-        decimal-length (s .«catalogue_lines» + 1),
-        decimal-length (s .«catalogue_lines» + 1 + s .«option_count»),
-        decimal-length (s .«catalogue_lines» + 1 + s .«option_count» + s .«ordering_count»),
-      )
+  pub trailer-length : length trailer-of ≡ 5 + length (decimal (s .«catalogue_lines» + 1)) + length (decimal (s .«catalogue_lines» + 1 + s .«option_count»)) + length (decimal (s .«catalogue_lines» + 1 + s .«option_count» + s .«ordering_count»))
+  trailer-length = three-length 84 (s .«catalogue_lines» + 1) (s .«catalogue_lines» + 1 + s .«option_count») (s .«catalogue_lines» + 1 + s .«option_count» + s .«ordering_count»)

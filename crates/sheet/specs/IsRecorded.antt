@@ -8,8 +8,8 @@ use lib.ListN.{take, drop, getD}
 use Rattle.shape.specs.declared.number.Numbers.{Numbers}
 use Rattle.sheet.specs.Judge.{judge-catalogue-line, judge-option, judge-ordering}
 use Rattle.sheet.specs.Limits.{catalogue-limit, option-limit, ordering-limit}
-use Rattle.sheet.specs.declared.judge.Judged.{Judged}
-use Rattle.sheet.specs.declared.judge.Judged.the-variants.{Fine, Broken}
+use Rattle.sheet.specs.declared.judged.Judged.{Judged}
+use Rattle.sheet.specs.declared.judged.Judged.the-variants.{Fine, Broken}
 use Rattle.sheet.specs.declared.sheet.Sheet.{Sheet}
 
 abbrev pub is-fine : Judged → Bool

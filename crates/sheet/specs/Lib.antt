@@ -1,4 +1,5 @@
 pub mod Answer
+pub mod Breaks
 pub mod Decisions
 pub mod IsRecorded
 pub mod Judge

@@ -1,5 +1,5 @@
 -- The text of a record: what the writer writes, and what an accepted sheet is.
-use Prim.Native.Nat.{ℕ, zero, suc, _+_, _-_}
+use Prim.Native.Nat.{ℕ, zero, suc, _+_}
 use mathlib.Core.List.{List, [], _∷_, _++_}
 use lib.ListN.{getD}
 use Rattle.sheet.specs.declared.sheet.Sheet.{Sheet}

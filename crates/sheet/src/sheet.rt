@@ -31,6 +31,8 @@ impl Sheet {
 
     pub const LARGEST_WEIGHT: u32 = 9999;
 
+    pub const LARGEST_VALUE: u32 = 959904;
+
     // A record with these counts and nothing in it.
     pub fn sized(catalogue_lines: usize, option_count: usize, ordering_count: usize) -> Sheet
         ensures { λ r. ⌜ r ≡ sized «catalogue_lines» «option_count» «ordering_count» ⌝ }

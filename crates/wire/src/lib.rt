@@ -1,13 +1,8 @@
-// What crosses the boundary to C and Rust: answers as one number, lent outputs, decisions and places as bytes.
-mod decision_bytes;
-mod decisions_out;
+// What crosses the boundary to C and Rust: answers as one number, lent outputs, places as bytes.
 mod outputs;
 mod packed;
 mod places_out;
 
-pub use decision_bytes::are_decisions;
-pub use decision_bytes::decisions_of;
-pub use decisions_out::put_decisions;
 pub use outputs::is_accepted;
 pub use outputs::lent;
 pub use outputs::lent_both;

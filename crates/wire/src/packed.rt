@@ -1,32 +1,8 @@
 // An answer as one number.
 use sheet::Answer;
-use sheet::Refusal;
 ghost use mathlib.Core.Path.{_≡_};
 ghost use Prim.Native.Nat.{_<_};
-ghost use Rattle.sheet.specs.Answer.{number-of};
 ghost use Rattle.wire.specs.Packed.{packed, packed-answer, Fits};
-
-fn number_of(why: Refusal) -> u64
-    ensures { λ r. ⌜ r ≡ number-of why ⌝ }
-{
-    match why {
-        Refusal::SheetTooLong => 1,
-        Refusal::NoTrailer => 2,
-        Refusal::BadTrailer => 3,
-        Refusal::Misshapen => 4,
-        Refusal::OutsideRange => 5,
-        Refusal::TooManyLines => 6,
-        Refusal::SubscribedTwice => 7,
-        Refusal::OneOptionTwice => 8,
-        Refusal::NotSubscribed => 9,
-        Refusal::SamePairAgain => 10,
-        Refusal::ToleranceTooLarge => 11,
-        Refusal::NotRecorded => 12,
-        Refusal::OutputTooShort => 13,
-        Refusal::WrongDecisions => 14,
-        Refusal::NotConsistent => 15,
-    }
-}
 
 // Four small numbers, sixteen bits each.
 fn pack(number: u64, line: usize, column: usize, count: usize) -> u64
@@ -44,8 +20,8 @@ pub fn pack_answer(answer: Answer, count: usize) -> u64
     match answer {
         Answer::Accepted => pack(0, 0, 0, count),
         Answer::Refused { place, why } => {
-            let number = number_of(why);
-            pack(number, place.line, place.column, 0)
+            let number = sheet::number_of(why);
+            pack(number as u64, place.line, place.column, 0)
         }
     }
 }

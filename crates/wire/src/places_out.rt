@@ -5,7 +5,7 @@ ghost use mathlib.Core.Path.{_≡_};
 ghost use Prim.Native.Nat.{_-_, _≤_};
 ghost use lib.ListN.{length};
 ghost use Rattle.rules.specs.Slots.{pick};
-ghost use Rattle.writer.specs.Write.{put};
+ghost use Rattle.print.specs.Put.{put};
 ghost use Rattle.wire.specs.Places.{number-at, place-numbers, is-used, places-in-use};
 
 // The catalogue number at a place.

@@ -26,10 +26,11 @@ use Rattle.sheet.specs.Answer.{number-of}
 use Rattle.sheet.specs.Lines.{lines-of}
 use Rattle.sheet.specs.declared.answer.Answer.{Answer}
 use Rattle.sheet.specs.declared.answer.Answer.the-variants.{Accepted, Refused}
-use Rattle.reader.specs.Lines.{read-lines}
+use Rattle.lines.specs.Lines.{read-lines}
 use Rattle.reader.specs.Read.{read-sheet, read-body, read-trailed}
-use Rattle.report.specs.Line.{digits, decimal}
-use Rattle.report.specs.Report.{each, answer-text, report-of}
+use Rattle.shape.specs.LineText.{digits, decimal}
+use Rattle.listing.specs.Listing.{each}
+use Rattle.report.specs.Report.{answer-text, report-of}
 
 -- ---- what a case claims
 pub data Case : Type 0 where

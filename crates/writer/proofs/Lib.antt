@@ -1,4 +1,3 @@
-pub mod PutLaws
 pub mod RoundTrip
 pub mod SectionLaws
 pub mod WriteLaws

@@ -21,7 +21,7 @@ use Rattle.writer.specs.declared.writing.Written.{Written}
 use Rattle.shape.proofs.SplitLaws.{zero-one}
 use Rattle.writer.proofs.WriteLaws.{Wrote}
 use Rattle.sheet.specs.Recorded.{Lengths}
-use Rattle.reader.specs.Result.{accepted}
+use Rattle.lines.specs.Result.{accepted}
 use Rattle.reader.proofs.AcceptLaws.{accepted-text}
 use Rattle.reader.proofs.ExactLaws.{given-passes, passes-is-given}
 

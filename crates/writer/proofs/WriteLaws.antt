@@ -7,12 +7,13 @@ use lib.ListN.{length}
 use borrow.Author.Tests.{lt-ltb, le-ltb}
 use Rattle.sheet.specs.IsRecorded.{is-recorded}
 use Rattle.sheet.specs.Text.{text-of}
-use Rattle.writer.specs.Write.{put, not-written, write-answer, write-buffer}
+use Rattle.print.specs.Put.{put}
+use Rattle.writer.specs.Write.{not-written, write-answer, write-buffer}
 use Rattle.sheet.specs.declared.sheet.Sheet.{Sheet}
 use Rattle.sheet.specs.declared.answer.Refusal.the-variants.{NotRecorded, OutputTooShort}
 use Rattle.sheet.specs.declared.answer.Answer.the-variants.{Accepted}
 use Rattle.writer.specs.declared.writing.Written.{Written}
-use Rattle.writer.proofs.PutLaws.{put-whole}
+use Rattle.print.proofs.PutLaws.{put-whole}
 
 abbrev pub Wrote : Sheet → List ℕ → Written → List ℕ → Type 0
 Wrote s out r after = (r ≡ write-answer s out) × (after ≡ write-buffer s out)

@@ -1,9 +1,9 @@
--- Writing a sheet: what the contract of `write::write_sheet` cites.
-use Prim.Native.Nat.{ℕ, _+_}
+-- Writing a sheet: what the contract of `write` cites.
+use Prim.Native.Nat.{ℕ}
 use mathlib.Core.Bool.{cond}
-use mathlib.Core.List.{List, [], _∷_, _++_}
+use mathlib.Core.List.{List, _++_}
 use lib.Dec.{ltb}
-use lib.ListN.{length, drop, set}
+use lib.ListN.{length, drop}
 use Rattle.sheet.specs.IsRecorded.{is-recorded}
 use Rattle.sheet.specs.Text.{text-of}
 use Rattle.sheet.specs.declared.sheet.Sheet.{Sheet}
@@ -11,11 +11,6 @@ use Rattle.sheet.specs.declared.answer.Refusal.{Refusal}
 use Rattle.sheet.specs.declared.answer.Refusal.the-variants.{NotRecorded, OutputTooShort}
 use Rattle.sheet.specs.declared.answer.Answer.the-variants.{Accepted, Refused}
 use Rattle.writer.specs.declared.writing.Written.{Written}
-
--- the buffer after the bytes l were stored from index `at` on
-unfoldable pub put : ℕ → List ℕ → List ℕ → List ℕ
-put at [] out = out
-put at (b ∷ l) out = put (at + 1) l (set out at b)
 
 -- a refusal: its number, the place 0, 0 and no byte written
 abbrev pub not-written : Refusal → Written

@@ -1,5 +1,4 @@
 // Writing a sheet back.
-mod print;
 mod writing;
 
 pub use writing::Written;

@@ -1,100 +1,23 @@
 // Writing a sheet.
-use crate::print::decimal_width;
-use crate::print::put_three;
-use crate::print::put_two;
+use print::put_three;
+use print::put_two;
+use record::is_recorded;
 use shape::Place;
 use sheet::Answer;
 use sheet::Refusal;
 use sheet::Sheet;
-use sheet::is_recorded;
-ghost use mathlib.Core.List.{[]};
+use size::text_size;
 ghost use mathlib.Core.Path.{_≡_};
-ghost use Prim.Native.Nat.{_≤_, _+_, _*_};
+ghost use Prim.Native.Nat.{_≤_, _+_};
 ghost use lib.ListN.{length};
 ghost use Rattle.sheet.specs.Text.{catalogue-text, options-text, orderings-text, text-of};
-ghost use Rattle.writer.specs.Write.{put, not-written, write-answer, write-buffer};
+ghost use Rattle.print.specs.Put.{put};
+ghost use Rattle.writer.specs.Write.{not-written, write-answer, write-buffer};
 
 // The answer of the writer, and how many bytes it wrote.
 pub struct Written {
     pub answer: Answer,
     pub size: usize,
-}
-
-// How many bytes the first n catalogue lines have; their letters do not matter.
-fn catalogue_size(befores: &[u8], afters: &[u8], n: usize) -> usize
-    requires { ⌜ n ≤ 512 ⌝ }
-    requires { ⌜ n ≤ length (now befores) ⌝ }
-    requires { ⌜ n ≤ length (now afters) ⌝ }
-    ensures { λ r. ⌜ (r ≡ length (catalogue-text n 0 [] (now (befores .entry)) (now (afters .entry)))) × (r ≤ 20 * n) ⌝ }
-{
-    let mut i: usize = 0;
-    let mut size: usize = 0;
-    while i < n {
-        let a = befores[i] as u32;
-        let b = afters[i] as u32;
-        size = size + 4 + decimal_width(a) + decimal_width(b);
-        i += 1;
-    }
-    size
-}
-
-// How many bytes the first n F lines have.
-fn options_size(numbers: &[u8], weights: &[u16], n: usize) -> usize
-    requires { ⌜ n ≤ 32 ⌝ }
-    requires { ⌜ n ≤ length (now numbers) ⌝ }
-    requires { ⌜ n ≤ length (now weights) ⌝ }
-    ensures { λ r. ⌜ (r ≡ length (options-text n 0 (now (numbers .entry)) (now (weights .entry)))) × (r ≤ 20 * n) ⌝ }
-{
-    let mut i: usize = 0;
-    let mut size: usize = 0;
-    while i < n {
-        let a = numbers[i] as u32;
-        let b = weights[i] as u32;
-        size = size + 4 + decimal_width(a) + decimal_width(b);
-        i += 1;
-    }
-    size
-}
-
-// How many bytes the first n U lines have.
-fn orderings_size(firsts: &[u8], seconds: &[u8], weights: &[u16], n: usize) -> usize
-    requires { ⌜ n ≤ 64 ⌝ }
-    requires { ⌜ n ≤ length (now firsts) ⌝ }
-    requires { ⌜ n ≤ length (now seconds) ⌝ }
-    requires { ⌜ n ≤ length (now weights) ⌝ }
-    ensures { λ r. ⌜ (r ≡ length (orderings-text n 0 (now (firsts .entry)) (now (seconds .entry)) (now (weights .entry)))) × (r ≤ 20 * n) ⌝ }
-{
-    let mut i: usize = 0;
-    let mut size: usize = 0;
-    while i < n {
-        let a = firsts[i] as u32;
-        let b = seconds[i] as u32;
-        let w = weights[i] as u32;
-        size = size + 5 + decimal_width(a) + decimal_width(b) + decimal_width(w);
-        i += 1;
-    }
-    size
-}
-
-// How many bytes the text of a record has.
-fn text_size(s: Sheet) -> usize
-    requires { ⌜ (s .«catalogue_lines» ≤ 512) × ((s .«option_count» ≤ 32) × (s .«ordering_count» ≤ 64)) ⌝ }
-    ensures { λ r. ⌜ r ≡ length (text-of s) ⌝ }
-{
-    let befores = s.befores;
-    let afters = s.afters;
-    let a = catalogue_size(&befores, &afters, s.catalogue_lines);
-    let numbers = s.numbers;
-    let weights = s.weights;
-    let b = options_size(&numbers, &weights, s.option_count);
-    let firsts = s.firsts;
-    let seconds = s.seconds;
-    let ordering_weights = s.ordering_weights;
-    let c = orderings_size(&firsts, &seconds, &ordering_weights, s.ordering_count);
-    let f = s.catalogue_lines + 1;
-    let u = f + s.option_count;
-    let t = u + s.ordering_count;
-    a + b + c + 5 + decimal_width(f as u32) + decimal_width(u as u32) + decimal_width(t as u32)
 }
 
 // Prints the first n catalogue lines from `at` on, and gives the position after them.
@@ -114,8 +37,8 @@ fn put_catalogue(
     let mut p = at;
     while i < n {
         let c = letters[i];
-        let a = befores[i] as u32;
-        let b = afters[i] as u32;
+        let a = befores[i] as usize;
+        let b = afters[i] as usize;
         p = put_two(out, p, c, a, b);
         i += 1;
     }
@@ -131,8 +54,8 @@ fn put_options(out: &mut [u8], at: usize, numbers: &[u8], weights: &[u16], n: us
     let mut i: usize = 0;
     let mut p = at;
     while i < n {
-        let a = numbers[i] as u32;
-        let b = weights[i] as u32;
+        let a = numbers[i] as usize;
+        let b = weights[i] as usize;
         p = put_two(out, p, 70, a, b);
         i += 1;
     }
@@ -155,9 +78,9 @@ fn put_orderings(
     let mut i: usize = 0;
     let mut p = at;
     while i < n {
-        let a = firsts[i] as u32;
-        let b = seconds[i] as u32;
-        let w = weights[i] as u32;
+        let a = firsts[i] as usize;
+        let b = seconds[i] as usize;
+        let w = weights[i] as usize;
         p = put_three(out, p, 85, a, b, w);
         i += 1;
     }
@@ -191,7 +114,7 @@ fn put_text(s: Sheet, out: &mut [u8]) -> usize
     let f = s.catalogue_lines + 1;
     let u = f + s.option_count;
     let t = u + s.ordering_count;
-    put_three(out, r, 84, f as u32, u as u32, t as u32)
+    put_three(out, r, 84, f, u, t)
 }
 
 // A refusal: place 0, 0 and no byte written.

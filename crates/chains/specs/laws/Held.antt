@@ -8,7 +8,7 @@ use Rattle.rows.specs.laws.Sets.{holds-at}
 use Rattle.rows.specs.laws.Slots.{some-same}
 use Rattle.graph.specs.Graph.{WithOrderings}
 use Rattle.chains.specs.Held.{holds-some, Soft}
-use Rattle.chains.specs.laws.Nought.{nothing-held}
+use Rattle.graph.specs.laws.Nought.{nothing-held}
 
 pub soft-is : (firsts seconds left : List ℕ) (open-orderings m set : ℕ) {r : List ℕ} → Holds set m (holds-some left open-orderings) → WithOrderings (replicate 32 0) set firsts seconds m r → Soft firsts seconds left open-orderings m r
 soft-is firsts seconds left open-orderings m set {r} h w = record {

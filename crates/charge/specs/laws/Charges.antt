@@ -12,11 +12,12 @@ use Rattle.rules.specs.laws.search.Items.{closes}
 use Rattle.rules.specs.laws.search.Residual.{Lower, held}
 use Rattle.rules.specs.laws.search.Charged.{Charge}
 use Rattle.rows.specs.Sets.{cell}
-use Rattle.charge.specs.Items.{numbered, AllNamed, members, ends-only}
-use Rattle.charge.specs.Taken.{residual-in, LeftIn, Took, held-in}
+use Rattle.numbered.specs.Items.{numbered, ends-only}
+use Rattle.links.specs.Links.{AllNamed, members}
+use Rattle.links.specs.laws.Chain.{member-is}
+use Rattle.residual.specs.Taken.{residual-in, LeftIn, Took, held-in}
+use Rattle.residual.specs.laws.Taken.{held-lower, lower-then, left-lower}
 use Rattle.charge.specs.Charges.{Measured, Gave, idle, charged, ChargedAs}
-use Rattle.charge.specs.laws.Taken.{held-lower, lower-then, left-lower}
-use Rattle.charge.specs.laws.Chain.{member-is}
 
 module _ (firsts seconds : List ℕ) (n m : ℕ) (options orderings chain : List ℕ) where
   pub measured-none : (least : ℕ) (was : List ℕ) → length was ≡ 64 → Measured firsts seconds n m options orderings chain 0 least was

@@ -15,16 +15,16 @@ use Rattle.sheet.specs.declared.answer.Refusal.the-variants.{NotRecorded, Wrong
 use Rattle.limits.specs.Answer.{shown-limits, limits-refused, limits-accepted, limits-answer}
 use Rattle.limits.specs.declared.answer.LimitsAnswer.{LimitsAnswer}
 use Rattle.sheet.specs.declared.answer.Answer.{Answer}
-use Rattle.writer.specs.Write.{put}
+use Rattle.print.specs.Put.{put}
 use Rattle.figures.specs.Limits.{limit-numbers, contradictions}
 use Rattle.figures.specs.laws.Limits.{limits-fit}
 use Rattle.wire.specs.Packed.{packed-answer, Placed}
 use Rattle.fields.specs.Record.{record-in}
-use Rattle.wire.specs.Decisions.{decisions-of, are-decisions, decision-bytes}
+use Rattle.decisions.specs.Decisions.{decisions-of, are-decisions, decision-bytes}
 use Rattle.wire.specs.Lent.{is-accepted, lent, written}
 use Rattle.exports.specs.Limits.{limits-in, limits-result, forced-bytes, limits-numbers}
 use Rattle.wire.specs.laws.Lent.{placed-nowhere, placed-accepted, placed-with-list, passed, out-refused, out-kept, out-accepted, out-written}
-use Rattle.wire.specs.laws.Decisions.{decisions-fit}
+use Rattle.decisions.specs.laws.Decisions.{decisions-fit}
 
 placed-limits : (s : Sheet) (d : Decisions) → Placed (limits-answer s d .answer)
 unfolding limits-answer

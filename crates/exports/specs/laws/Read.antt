@@ -9,16 +9,16 @@ use lib.ListN.{length}
 use Rattle.sheet.specs.declared.answer.Answer.{Answer}
 use Rattle.sheet.specs.declared.answer.Answer.the-variants.{Accepted, Refused}
 use Rattle.reader.specs.Read.{read-sheet}
-use Rattle.reader.specs.declared.result.Reading.{Reading}
+use Rattle.lines.specs.declared.result.Reading.{Reading}
 use Rattle.report.specs.laws.Place.{line-of, column-of, place-is-short}
 use Rattle.report.specs.laws.Reading.{accepted-is-recorded}
-use Rattle.writer.specs.Write.{put}
+use Rattle.print.specs.Put.{put}
 use Rattle.wire.specs.Packed.{packed-answer, Placed}
 use Rattle.fields.specs.Record.{bytes-of, record-size}
 use Rattle.wire.specs.Lent.{is-accepted, lent, written}
 use Rattle.exports.specs.Read.{read-result, read-record}
 use Rattle.wire.specs.laws.Lent.{accepted-is, passed, out-refused, out-kept, out-accepted, out-written}
-use Rattle.fields.specs.laws.Put.{record-fits}
+use Rattle.fields_out.specs.laws.Put.{record-fits}
 
 placed-short : (a : Answer) → (line-of a < 65536) × (column-of a < 65536) → Placed a
 placed-short Accepted h = tt

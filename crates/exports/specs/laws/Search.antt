@@ -8,29 +8,30 @@ use lib.Dec.{leb, ltb}
 use lib.ListN.{length}
 use Rattle.rules.specs.Best as R
 use Rattle.sheet.specs.IsRecorded.{is-recorded}
+use Rattle.sheet.specs.Limits.{largest-value}
 use Rattle.sheet.specs.declared.sheet.Sheet.{Sheet}
 use Rattle.sheet.specs.declared.answer.Refusal.the-variants.{NotRecorded, ToleranceTooLarge}
 use Rattle.search.specs.Search.{answered, SearchedAs}
 use Rattle.search.specs.laws.Searched.{one-result-at-nought}
 use Rattle.search.specs.declared.sheet_search.Searched.{Searched}
 use Rattle.sheet.specs.declared.answer.Answer.{Answer}
-use Rattle.writer.specs.Write.{put}
+use Rattle.print.specs.Put.{put}
 use Rattle.wire.specs.Packed.{packed-answer, Placed}
 use Rattle.fields.specs.Record.{record-in}
-use Rattle.wire.specs.Decisions.{decision-bytes}
+use Rattle.decisions.specs.Decisions.{decision-bytes}
 use Rattle.wire.specs.Lent.{is-accepted, lent, written}
 use Rattle.exports.specs.Search.{totals-of, search-lent, SearchShown}
 use Rattle.wire.specs.laws.Lent.{placed-nowhere, placed-accepted, passed, out-refused, out-kept, out-accepted, out-written}
-use Rattle.wire.specs.laws.Decisions.{decisions-fit}
+use Rattle.decisions.specs.laws.Decisions.{decisions-fit}
 
 placed-answered : (s : Sheet) (a : R.Answer) → Placed (answered s a .answer)
 unfolding answered
 placed-answered s a = placed-accepted
 
 pub search-placed : (s : Sheet) (tolerance : ℕ) {x : Searched} → SearchedAs s tolerance x → Placed (x .answer)
-search-placed s tolerance {x} w = go (is-recorded s) (ltb 959904 tolerance) refl refl
+search-placed s tolerance {x} w = go (is-recorded s) (ltb largest-value tolerance) refl refl
   where
-    go : (b t : Bool) → is-recorded s ≡ b → ltb 959904 tolerance ≡ t → Placed (x .answer)
+    go : (b t : Bool) → is-recorded s ≡ b → ltb largest-value tolerance ≡ t → Placed (x .answer)
     go false t e f = subst (λ z. Placed (z .answer)) (sym (w .not-recorded e)) (placed-nowhere NotRecorded)
     go true true e f = subst (λ z. Placed (z .answer)) (sym (w .too-large e (ltb-true _ _ f))) (placed-nowhere ToleranceTooLarge)
     go true false e f = let (a, is, q) = w .answer e (ltb-false _ _ f) in subst (λ z. Placed (z .answer)) (sym q) (placed-answered s a)

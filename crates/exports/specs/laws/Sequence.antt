@@ -20,10 +20,10 @@ use Rattle.sequence.specs.declared.answer.Sequenced.{Sequenced}
 use Rattle.wire.specs.Places.{number-at, place-numbers, places-in-use}
 use Rattle.exports.specs.Sequence.{sequence-in, sequence-result, sequence-places}
 use Rattle.sheet.specs.declared.answer.Answer.{Answer}
-use Rattle.writer.specs.Write.{put}
+use Rattle.print.specs.Put.{put}
 use Rattle.wire.specs.Packed.{packed-answer, Placed}
 use Rattle.fields.specs.Record.{record-in}
-use Rattle.wire.specs.Decisions.{decisions-of, are-decisions}
+use Rattle.decisions.specs.Decisions.{decisions-of, are-decisions}
 use Rattle.wire.specs.Lent.{is-accepted, lent, written}
 use Rattle.wire.specs.laws.Lent.{placed-nowhere, placed-accepted, placed-with-list, passed, out-refused, out-kept, out-accepted, out-written}
 

@@ -14,7 +14,7 @@ use Rattle.sheet.specs.declared.sheet.Sheet.{Sheet}
 use Rattle.sheet.specs.declared.answer.Answer.the-variants.{Accepted, Refused}
 use Rattle.sheet.specs.declared.answer.Refusal.the-variants.{NotRecorded, OutputTooShort, SheetTooLong}
 use Rattle.reader.specs.Read.{read-sheet}
-use Rattle.reader.specs.Result.{accepted, refused-at}
+use Rattle.lines.specs.Result.{accepted, refused-at}
 use Rattle.reader.proofs.ExactLaws.{passes-is-given}
 use Rattle.writer.specs.Write.{not-written, write-answer, write-buffer}
 use Rattle.writer.specs.declared.writing.Written.{Written}

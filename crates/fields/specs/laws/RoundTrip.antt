@@ -8,12 +8,12 @@ use native.Mathlib.Nat.{div-add-mod', eq-or-lt-of-le}
 use lib.ListN.{length, getD, drop, List·getD-append}
 use lib.Seq.{drop-drop, drop-at, getD-drop, getD-append-add, ext-getD}
 use Rattle.rules.specs.laws.Slots.{length-list-of, getD-list-of, list-of-same}
-use Rattle.wire.specs.laws.Parts.{parts-more}
+use Rattle.entries.specs.laws.Parts.{parts-more}
 use Rattle.sheet.specs.Recorded.{Lengths, Recorded}
 use Rattle.sheet.specs.declared.sheet.Sheet.{Sheet}
 use Rattle.fields.specs.Record.{two-at, bytes-at, twos-at, record-of, two-bytes, twos-of, bytes-in, tail-of, bytes-of}
 use Rattle.fields.specs.laws.Record.{same-sheet}
-use Rattle.fields.specs.laws.Put.{twos-length, bytes-length}
+use Rattle.fields.specs.laws.Lengths.{twos-length, bytes-length}
 
 -- ---- a part that stands in a list from `at` on
 module _ (b p r : List ℕ) (at : ℕ) (e : drop at b ≡ p ++ r) where

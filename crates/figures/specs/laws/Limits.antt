@@ -5,10 +5,10 @@ use mathlib.Core.List.{List, [], _∷_, _++_}
 use native.Mathlib.Omega.{arith}
 use lib.ListN.{length, length-append, set, length-set}
 use Rattle.limits.specs.declared.whole.Limited.{Limited}
-use Rattle.writer.specs.Write.{put}
-use Rattle.wire.specs.Parts.{parts}
-use Rattle.wire.specs.laws.Parts.{parts-length}
-use Rattle.wire.specs.laws.Put.{put-then, put-same-length, put-two}
+use Rattle.print.specs.Put.{put}
+use Rattle.entries.specs.Parts.{parts}
+use Rattle.entries.specs.laws.Parts.{parts-length}
+use Rattle.entries.specs.laws.Put.{put-then, put-same-length, put-two}
 use Rattle.figures.specs.Limits.{four-at, limit-numbers}
 
 module _ (l : Limited) (before : List ℕ) {out : List ℕ} (e : out ≡ put 2 (parts 32 (four-at (l .options))) (set (set before 0 (l .lower)) 1 (l .upper))) where

@@ -9,7 +9,7 @@ use Rattle.rules.specs.Slots.{sum}
 use Rattle.rows.specs.Bits.{has}
 use Rattle.rows.specs.Sets.{Holds}
 use Rattle.rows.specs.laws.Sets.{holds-at}
-use Rattle.half.specs.Weights.{weight-in}
+use Rattle.half.specs.Weights.{largest-sum, weight-in}
 use Rattle.half.specs.Half.{whole-weight, weight-of-sets, HalfDecidedAs}
 use Rattle.half.specs.laws.Weights.{over-apart}
 use Rattle.forced.specs.declared.forcing.Forced.{Forced}
@@ -28,8 +28,8 @@ dropped-fits n m ws bs p q =
 
 pub half-decided-as : (f : Forced) (n m : ℕ) (ws bs : List ℕ) (o u lower x y gone : ℕ)
     → Holds o n (λ i. not (has (f .kept) i || has (f .dropped) i)) → Holds u m (λ j. not (has (f .«kept_orderings») j || has (f .«dropped_orderings») j))
-    → lower ≡ weight-of-sets n m ws bs (has (f .kept)) (has (f .«kept_orderings»)) → lower ≤ 6291360
-    → x ≡ sum n (weight-in ws) → y ≡ sum m (weight-in bs) → x + y ≤ 6291360
+    → lower ≡ weight-of-sets n m ws bs (has (f .kept)) (has (f .«kept_orderings»)) → lower ≤ largest-sum
+    → x ≡ sum n (weight-in ws) → y ≡ sum m (weight-in bs) → x + y ≤ largest-sum
     → gone ≡ weight-of-sets n m ws bs (has (f .dropped)) (has (f .«dropped_orderings»))
     → HalfDecidedAs f n m ws bs (record { «open_options» = o; «open_orderings» = u; known = f .known; lower = lower; upper = x + y - gone })
 half-decided-as f n m ws bs o u lower x y gone ro ru el bl ex ey bxy eg = record {

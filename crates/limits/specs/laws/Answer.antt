@@ -10,12 +10,11 @@ use Rattle.rules.specs.Subscription.{Subscription, subscription, items}
 use Rattle.rules.specs.Decisions.{DecidedBySlot, decided-by-slot}
 use Rattle.rules.specs.KnownBefore.{ordering-kept, option-kept}
 use Rattle.rules.specs.Forced.{option-dropped, ordering-dropped, contradiction, decision-of, forced, forced-option, forced-ordering}
-use Rattle.rules.specs.Limits.{A, B}
 use Rattle.given.specs.Given.{undecided, decided-as, Gives, decided-past, choice-of, decision-list}
 use Rattle.rules.specs.Results.{option-limit, ordering-limit, limits-of}
-use Rattle.limits.specs.Cells.{no-limit}
+use Rattle.cells.specs.Cells.{no-limit, shown-limit}
 use Rattle.half.specs.Filled.{filled}
-use Rattle.limits.specs.Limited.{shown-limit, contradictory, without-contradiction, limited-as, LimitedBy}
+use Rattle.limits.specs.Limited.{contradictory, without-contradiction, limited-as, LimitedBy}
 use Rattle.subscription.specs.Shown.{ShownBy}
 use Rattle.given.specs.laws.List.{take-list-of, drop-list-of, gives-list}
 use Rattle.limits.specs.Answer.{padded, shown-limits, limits-refused, limits-accepted, limits-answer}
@@ -32,7 +31,7 @@ use Rattle.given.specs.declared.sets.Given.{Given}
 use Rattle.subscription.specs.declared.slots_of_sheet.BySlot.{BySlot}
 use Rattle.sheet.specs.declared.sheet.Sheet.{Sheet}
 use Rattle.sheet.specs.declared.decision.Decisions.{Decisions}
-use Rattle.limits.specs.declared.cells.Limit.{Limit}
+use Rattle.cells.specs.declared.cells.Limit.{Limit}
 use Rattle.limits.specs.declared.whole.Limited.{Limited}
 
 module _ (s : Lines) (l : List R.Decision) where

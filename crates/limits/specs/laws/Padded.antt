@@ -5,7 +5,6 @@ use Prim.Native.Nat.{ℕ, zero, suc}
 use lib.ListN.{replicate, take, drop}
 use Rattle.rules.specs.Slots.{list-of}
 use Rattle.rules.specs.Decisions.{all-open}
-use Rattle.rules.specs.Limits.{A, B}
 use Rattle.given.specs.Given.{undecided, choice-of}
 use Rattle.half.specs.Filled.{filled}
 use Rattle.limits.specs.Answer.{padded}

@@ -12,11 +12,9 @@ use Rattle.rules.specs.Lines.{Lines}
 use Rattle.rules.specs.Subscription.{items, Proper}
 use Rattle.rules.specs.Decisions.{is-open}
 use Rattle.rules.specs.Forced.{contradiction, forced}
-use Rattle.rules.specs.Limits.{A, B}
 use Rattle.given.specs.Given.{decided, undecided, decided-past, choice-of, decision-list}
 use Rattle.rules.specs.Results.{limits-of}
-use Rattle.limits.specs.Cells.{no-limit}
-use Rattle.limits.specs.Limited.{shown-limit}
+use Rattle.cells.specs.Cells.{no-limit, shown-limit}
 use Rattle.given.specs.laws.List.{length-decision-list}
 use Rattle.limits.specs.Answer.{padded, shown-limits, limits-accepted, limits-answer}
 use Rattle.sheet.specs.Lines.{lines-of}
@@ -35,7 +33,7 @@ use Rattle.rules.specs.laws.OpenChoices.{open-option-may-be-kept, open-option-m
 use Rattle.rules.specs.laws.LimitsHold.{Between, whole-limits-hold, option-kept-limits-hold, option-dropped-limits-hold, ordering-kept-limits-hold, ordering-dropped-limits-hold}
 use Rattle.sheet.specs.declared.sheet.Sheet.{Sheet}
 use Rattle.sheet.specs.declared.decision.Decisions.{Decisions}
-use Rattle.limits.specs.declared.cells.Limit.{Limit}
+use Rattle.cells.specs.declared.cells.Limit.{Limit}
 use Rattle.limits.specs.declared.whole.Limited.{Limited}
 use Rattle.limits.specs.declared.answer.LimitsAnswer.{LimitsAnswer}
 

@@ -22,9 +22,12 @@ use Rattle.rows.specs.Bits.{has}
 use Rattle.rows.specs.Sets.{Holds, cell}
 use Rattle.rows.specs.laws.Sets.{holds-at}
 use Rattle.graph.specs.Shown.{counted}
-use Rattle.charge.specs.Items.{numbered, Named, ends-only, end-of, OptionAt}
-use Rattle.charge.specs.laws.Items.{numbered-option}
-use Rattle.charge.specs.laws.Shown.{ShowsKnown, named-on-the-sheet, linked-same}
+use Rattle.numbered.specs.Items.{numbered, Named, ends-only}
+use Rattle.links.specs.Links.{end-of, OptionAt}
+use Rattle.numbered.specs.laws.Items.{numbered-option}
+use Rattle.numbered.specs.Shown.{ShowsKnown}
+use Rattle.numbered.specs.laws.Items.{named-on-the-sheet}
+use Rattle.links.specs.laws.Shown.{linked-same}
 use Rattle.loose.specs.Loose.{EndsOf, Transposed, ClosedEnds, FreeSide, LooseBy}
 use Rattle.loose.specs.laws.Masks.{end-in}
 use Rattle.loose.specs.laws.Sides.{never}
@@ -56,7 +59,7 @@ module _ (v : Subscription) (d : DecidedBySlot) (n m : ℕ) (known firsts second
   y = numbered x
 
   here : ItemOnTheSheet s y
-  here = named-on-the-sheet v d n m known firsts seconds sh x named
+  here = named-on-the-sheet v n m x named
 
   option-in : (j : ℕ) → j < n → T (option-open s d j) → has opens j ≡ true
   option-in j l t = holds-at (os .options) j l ∙ T-true _ t

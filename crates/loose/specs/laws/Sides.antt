@@ -8,7 +8,7 @@ use native.Mathlib.Omega.{arith}
 use lib.ListN.{getD}
 use Rattle.rows.specs.Bits.{has, joined, met}
 use Rattle.rows.specs.laws.Bits.{has-none, has-joined, has-met}
-use Rattle.charge.specs.Items.{OptionAt, OnlyIf}
+use Rattle.links.specs.Links.{OptionAt, OnlyIf}
 use Rattle.loose.specs.Loose.{ClosedEnds, FreeSide, LooseBy}
 
 pub never : true ≡ false → ⊥

@@ -11,7 +11,7 @@ use Rattle.sheet.specs.declared.answer.Answer.the-variants.{Accepted}
 use Rattle.report.specs.Report.{report-of}
 use Rattle.report.specs.Answer.{too-short, report-answer, report-buffer}
 use Rattle.report.specs.declared.reporting.Reported.{Reported}
-use Rattle.report.specs.Appended.{Room, Appended}
+use Rattle.listing.specs.Appended.{Room, Appended}
 use Rattle.report.specs.laws.Short.{report-short}
 
 -- What the contract of `report` says.

@@ -26,11 +26,11 @@ use Rattle.sheet.specs.declared.sheet.Sheet.{Sheet}
 use Rattle.sheet.specs.declared.decision.Decisions.{Decisions}
 use Rattle.sheet.specs.Lines.{lines-of}
 use Rattle.sheet.proofs.LinesLaws.{option-lines, ordering-lines, slot-number}
-use Rattle.report.specs.Line.{line-text}
-use Rattle.report.specs.Report.{each, unless, sequence-text, dropped-option-text, dropped-ordering-text, answer-text}
+use Rattle.shape.specs.LineText.{line-text}
+use Rattle.listing.specs.Listing.{each, unless, place-line, option-line, ordering-line}
+use Rattle.report.specs.Report.{sequence-text, dropped-option-text, dropped-ordering-text, answer-text}
 use Rattle.report.specs.Report as Told
-use Rattle.report.specs.Appended.{place-line, option-line, ordering-line}
-use Rattle.report.specs.laws.Each.{each-same}
+use Rattle.listing.specs.laws.Each.{each-same}
 use Rattle.report.specs.laws.Chosen.{option-chosen, ordering-chosen, not-dropped-if-chosen, sequence-is-accepted}
 use Rattle.report.specs.laws.Places.{slots-are-few, places-are-few, places-hold-options, places-printed}
 

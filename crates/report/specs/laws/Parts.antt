@@ -1,7 +1,8 @@
 -- The report of a best relaxation is printed part by part: its value, its places, its dropped options, its dropped orderings.
-use Prim.Native.Nat.{ℕ}
+use Prim.Native.Nat.{ℕ, _+_}
 use mathlib.Core.Path.{_≡_, sym}
 use mathlib.Core.List.{List, _++_}
+use lib.ListN.{length}
 use Rattle.rules.specs.Results.{answer-at-nought}
 use Rattle.search.specs.Search.{SearchedAs}
 use Rattle.search.specs.declared.sheet_search.Searched.{Searched}
@@ -11,9 +12,10 @@ use Rattle.sheet.specs.Recorded.{Recorded}
 use Rattle.sheet.specs.declared.sheet.Sheet.{Sheet}
 use Rattle.sheet.proofs.PassLaws.{recorded-passes}
 use Rattle.sheet.specs.Lines.{lines-of}
+use Rattle.print.specs.Put.{put}
 use Rattle.report.specs.Report.{answer-text}
-use Rattle.report.specs.Appended.{Room, Appended}
-use Rattle.report.specs.laws.Appended.{appended-both, appended-same, room-first, room-second, room-same}
+use Rattle.listing.specs.Appended.{Room, Appended}
+use Rattle.listing.specs.laws.Appended.{appended-both, appended-put, appended-same, room-first, room-second, room-same}
 use Rattle.report.specs.laws.Best.{printed-value, printed-places, printed-options, printed-orderings, printed-text, printed-is-best}
 
 module _ (s : Sheet) (rule : Recorded s) (found : Searched) (sequenced : Sequenced) (searched : SearchedAs s 0 found) (in-sequence : sequenced ≡ sequence-answer s (found .decisions)) where
@@ -39,7 +41,10 @@ module _ (s : Sheet) (rule : Recorded s) (found : Searched) (sequenced : Sequenc
     pub value-fits : Room page 0 value
     value-fits = room-first value (places ++ (options ++ orderings)) whole
 
-    module _ {valued : List ℕ} {p : ℕ} (value-printed : Appended page valued 0 p value) where
+    module _ {valued : List ℕ} {p : ℕ} (value-put : (valued ≡ put 0 value page) × (p ≡ 0 + length value)) where
+      value-printed : Appended page valued 0 p value
+      value-printed = appended-put value value-fits value-put
+
       after-value : Room valued p (places ++ (options ++ orderings))
       after-value = room-second value (places ++ (options ++ orderings)) whole value-printed
 

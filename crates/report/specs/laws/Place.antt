@@ -17,13 +17,13 @@ use Rattle.sheet.specs.Limits.{largest-weight}
 use Rattle.sheet.specs.declared.answer.Refusal.the-variants.{OutsideRange, SubscribedTwice, OneOptionTwice, NotSubscribed, SamePairAgain}
 use Rattle.sheet.specs.declared.answer.Answer.{Answer}
 use Rattle.sheet.specs.declared.answer.Answer.the-variants.{Accepted, Refused}
-use Rattle.sheet.specs.declared.judge.Judged.{Judged}
-use Rattle.sheet.specs.declared.judge.Judged.the-variants.{Fine, Broken}
+use Rattle.sheet.specs.declared.judged.Judged.{Judged}
+use Rattle.sheet.specs.declared.judged.Judged.the-variants.{Fine, Broken}
 use Rattle.sheet.specs.declared.sheet.Sheet.{Sheet}
-use Rattle.reader.specs.Lines.{judged-line}
+use Rattle.lines.specs.Lines.{judged-line}
 use Rattle.reader.specs.Read.{read-sheet}
 use Rattle.reader.specs.Verdict.{Verdict, over, misshapen, broken, next, Told, sheet-too-long, no-trailer, trailer-bad, too-many-catalogue-lines, too-many-options, too-many-orderings, lines}
-use Rattle.reader.specs.declared.result.Reading.{Reading}
+use Rattle.lines.specs.declared.result.Reading.{Reading}
 use Rattle.reader.proofs.ToldLaws.{told}
 
 -- ---- the line and the column of an answer

@@ -13,16 +13,16 @@ use Rattle.rules.specs.Relaxation.{kept-by-slot}
 use Rattle.rules.specs.Sequence.{Sequence, done, place, kept-slots, SequenceOf}
 use Rattle.rules.specs.laws.Slots.{slots-out}
 use Rattle.rules.specs.laws.Without.{without-out, without-lt}
-use Rattle.sequence.specs.Next.{number}
+use Rattle.placing.specs.Next.{number}
 use Rattle.sequence.specs.Padded.{places-of}
 use Rattle.sheet.specs.Recorded.{Recorded, OptionNumber}
 use Rattle.sheet.specs.declared.sheet.Sheet.{Sheet}
 use Rattle.sheet.specs.Lines.{lines-of}
 use Rattle.sheet.proofs.LinesLaws.{option-lines, slot-number}
-use Rattle.report.specs.Line.{line-text}
-use Rattle.report.specs.Report.{each, unless, place-text}
-use Rattle.report.specs.Appended.{place-line}
-use Rattle.report.specs.laws.Each.{each-same, each-first}
+use Rattle.shape.specs.LineText.{line-text}
+use Rattle.listing.specs.Listing.{each, unless, place-line}
+use Rattle.report.specs.Report.{place-text}
+use Rattle.listing.specs.laws.Each.{each-same, each-first}
 
 module _ (number : ℕ → ℕ) (e : ℕ → ℕ → Bool) where
   placed-few : {left q : List ℕ} → Sequence number e left q → length (map number q) ≤ length left

@@ -9,7 +9,7 @@ use Rattle.sheet.specs.declared.answer.Refusal.{Refusal}
 use Rattle.sheet.specs.declared.answer.Answer.the-variants.{Accepted, Refused}
 use Rattle.sheet.specs.Lines.{lines-of}
 use Rattle.reader.specs.Read.{read-sheet}
-use Rattle.reader.specs.declared.result.Reading.{Reading}
+use Rattle.lines.specs.declared.result.Reading.{Reading}
 use Rattle.reader.proofs.ExactLaws.{given-is-recorded}
 use Rattle.report.specs.Report.{answer-text, refusal-text, reading-text, report-of}
 

@@ -15,22 +15,31 @@ use Rattle.rules.specs.Best.{AnswerTo}
 use Rattle.rules.specs.laws.Best.{answer-at-nought-is}
 use Rattle.rules.specs.laws.Sequence.{sequence-of-choice-is, has-sequence-iff-consistent}
 use Rattle.sheet.specs.Answer.{number-of}
+use Rattle.sheet.specs.Limits.{largest-value}
 use Rattle.sheet.specs.Recorded.{Recorded, Subscribed}
-use Rattle.sheet.specs.declared.answer.Refusal.{Refusal}
-use Rattle.sheet.specs.declared.answer.Refusal.the-variants.{SheetTooLong, NoTrailer, BadTrailer, Misshapen, OutsideRange, TooManyLines, SubscribedTwice, OneOptionTwice, NotSubscribed, SamePairAgain, ToleranceTooLarge, NotRecorded, OutputTooShort, WrongDecisions, NotConsistent}
 use Rattle.sheet.specs.declared.answer.Answer.{Answer}
 use Rattle.sheet.specs.declared.answer.Answer.the-variants.{Accepted, Refused}
 use Rattle.sheet.specs.declared.sheet.Sheet.{Sheet}
 use Rattle.sheet.specs.Lines.{lines-of}
+use Rattle.sheet.proofs.AnswerLaws.{refusal-number}
 use Rattle.sheet.proofs.LinesLaws.{option-lines, ordering-lines, slot-number, slot-weight, slot-ordering-weight, recorded-proper}
 use Rattle.reader.specs.Read.{read-sheet}
-use Rattle.report.specs.Report.{each, value-text, place-text, sequence-text, ordering-line, dropped-option-text, dropped-ordering-text, answer-text, report-of}
-use Rattle.report.specs.Line.{line-text}
+use Rattle.listing.specs.Listing.{each}
+use Rattle.report.specs.Report.{value-text, place-text, sequence-text, ordering-line, dropped-option-text, dropped-ordering-text, answer-text, report-of}
+use Rattle.shape.specs.LineText.{line-text}
+use Rattle.shape.proofs.LengthLaws.{six-digits, two-length, three-length}
 use Rattle.report.specs.laws.Best.{ordering-line-is}
-use Rattle.report.specs.laws.Length.{value-line-short, place-line-short, option-line-short, ordering-line-short, refusal-line-short, unless-short, nine-each, ten-each, nine-kept-or-dropped}
+use Rattle.listing.specs.laws.Length.{place-line-short, option-line-short, ordering-line-short, unless-short, nine-each, ten-each, nine-kept-or-dropped}
 use Rattle.report.specs.laws.Place.{line-of, column-of, place-is-short}
 use Rattle.report.specs.laws.Places.{slots-are-few, places-are-few, places-hold-options}
 use Rattle.report.specs.laws.Reading.{report-of-accepted, report-of-refused, accepted-is-recorded}
+
+-- ---- lines
+value-line-short : (a b : ℕ) → a < 1000000 → b < 1000000 → length (line-text 86 (a ∷ b ∷ [])) ≤ 16
+value-line-short a b h k = let e = two-length 86 a b in let f = six-digits a h in let g = six-digits b k in omega arith
+
+refusal-line-short : (a b c : ℕ) → a < 1000000 → b < 1000000 → c < 1000000 → length (line-text 69 (a ∷ b ∷ c ∷ [])) ≤ 23
+refusal-line-short a b c h k l = let e = three-length 69 a b c in let f = six-digits a h in let g = six-digits b k in let d = six-digits c l in omega arith
 
 -- ---- the value: "the largest possible value is 959,904"
 picked-few : (b : Bool) (w : ℕ) → pick b w ≤ w
@@ -46,7 +55,7 @@ module _ (s : Sheet) (rule : Recorded s) where
   abbrev lines : Lines
   lines = lines-of s
 
-  value-is-few : (r : List Bool) → value-of lines r ≤ 959904
+  value-is-few : (r : List Bool) → value-of lines r ≤ largest-value
   unfolding value-of value subscription
   value-is-few r =
       let v = subscription lines in
@@ -105,23 +114,6 @@ module _ (s : Sheet) (rule : Recorded s) where
         let e = length-append (value-text a) (p ++ (d ++ o)) in let f = length-append p (d ++ o) in let g = length-append d o in
         let h = value-short in let k = options-and-places-short in let l = orderings-short in omega arith
 
-number-short : (why : Refusal) → number-of why < 1000000
-number-short SheetTooLong = omega arith
-number-short NoTrailer = omega arith
-number-short BadTrailer = omega arith
-number-short Misshapen = omega arith
-number-short OutsideRange = omega arith
-number-short TooManyLines = omega arith
-number-short SubscribedTwice = omega arith
-number-short OneOptionTwice = omega arith
-number-short NotSubscribed = omega arith
-number-short SamePairAgain = omega arith
-number-short ToleranceTooLarge = omega arith
-number-short NotRecorded = omega arith
-number-short OutputTooShort = omega arith
-number-short WrongDecisions = omega arith
-number-short NotConsistent = omega arith
-
 -- THE REPORT HAS AT MOST 1,024 BYTES, whatever the text.
 pub report-short : (text : List ℕ) → length (report-of text) ≤ 1024
 report-short text = go (read-sheet text .answer) refl
@@ -132,7 +124,8 @@ report-short text = go (read-sheet text .answer) refl
         subst (λ z. length z ≤ 1024) (sym (report-of-accepted text (read-sheet text) refl e)) (answer-short s (accepted-is-recorded text (read-sheet text) refl e) (answer-at-nought (lines-of s)) (answer-at-nought-is (lines-of s)))
     go (Refused p why) e =
         let z = place-is-short text in
+        let number = refusal-number why in
         let line = ap line-of e in let column = ap column-of e in
-        let h = refusal-line-short (number-of why) (p .line) (p .column) (number-short why) (omega (arith, z .0, line)) (omega (arith, z .1, column)) in
+        let h = refusal-line-short (number-of why) (p .line) (p .column) (omega (arith, number .1)) (omega (arith, z .0, line)) (omega (arith, z .1, column)) in
         let f = ap length (report-of-refused text (read-sheet text) refl e) in
         omega (arith, h, f)

@@ -21,8 +21,8 @@ use Rattle.sheet.proofs.LinesLaws.{option-lines, ordering-lines, slot-weight, s
 use Rattle.subscription.specs.Shown.{ShownBy}
 use Rattle.sheet.specs.declared.sheet.Sheet.{Sheet}
 use Rattle.subscription.specs.declared.slots_of_sheet.BySlot.{BySlot}
-use Rattle.settle.specs.Arrays.{ShowsSheet, Arrays}
-use Rattle.settle.specs.Sets.{chosen-list}
+use Rattle.keeping.specs.Arrays.{ShowsSheet, Arrays}
+use Rattle.keeping.specs.Sets.{chosen-list}
 use Rattle.search.specs.Search.{chosen, answered, Answers, accepted, answer-in, FoundBy}
 use Rattle.search.specs.declared.found.Found.{Found}
 use Rattle.search.specs.declared.sheet_search.Searched.{Searched}

@@ -7,6 +7,7 @@ use lib.Dec.{T}
 use Rattle.rules.specs.Results.{answer-at-nought}
 use Rattle.rules.specs.laws.Best.{answer-at-nought-only}
 use Rattle.sheet.specs.IsRecorded.{is-recorded}
+use Rattle.sheet.specs.Limits.{largest-value}
 use Rattle.sheet.specs.Lines.{lines-of}
 use Rattle.sheet.specs.declared.answer.Refusal.the-variants.{NotRecorded, ToleranceTooLarge}
 use Rattle.sheet.specs.declared.sheet.Sheet.{Sheet}
@@ -19,10 +20,10 @@ not-both e f = subst T (sym e ∙ f) tt
 pub refused-recorded : (s : Sheet) (tolerance : ℕ) {r : Searched} → is-recorded s ≡ false → r ≡ refused NotRecorded → SearchedAs s tolerance r
 refused-recorded s tolerance e q = record { not-recorded = λ _. q; too-large = λ f _. absurd (not-both f e); answer = λ f _. absurd (not-both f e) }
 
-pub refused-tolerance : (s : Sheet) (tolerance : ℕ) {r : Searched} → is-recorded s ≡ true → 959904 < tolerance → r ≡ refused ToleranceTooLarge → SearchedAs s tolerance r
+pub refused-tolerance : (s : Sheet) (tolerance : ℕ) {r : Searched} → is-recorded s ≡ true → largest-value < tolerance → r ≡ refused ToleranceTooLarge → SearchedAs s tolerance r
 refused-tolerance s tolerance e l q = record { not-recorded = λ f. absurd (not-both e f); too-large = λ _ _. q; answer = λ _ k. absurd (omega arith) }
 
-pub searched : (s : Sheet) (tolerance : ℕ) {r : Searched} → is-recorded s ≡ true → tolerance ≤ 959904 → Answers s tolerance r → SearchedAs s tolerance r
+pub searched : (s : Sheet) (tolerance : ℕ) {r : Searched} → is-recorded s ≡ true → tolerance ≤ largest-value → Answers s tolerance r → SearchedAs s tolerance r
 searched s tolerance e l q = record { not-recorded = λ f. absurd (not-both e f); too-large = λ _ k. absurd (omega arith); answer = λ _ _. q }
 
 -- TOLERANCE 0: the result is the one that the rules name.

@@ -10,7 +10,6 @@ use lib.ListN.{length, take, drop}
 use Rattle.rules.specs.Lines.{Lines}
 use Rattle.rules.specs.Subscription.{Subscription, subscription, items}
 use Rattle.rules.specs.Decisions.{is-kept, decided-by-slot}
-use Rattle.rules.specs.Limits.{A}
 use Rattle.rows.specs.laws.Sets.{holds-same}
 use Rattle.given.specs.Given.{decided-as, Gives, decided-past, open-within, decision-list}
 use Rattle.rules.specs.Results.{sequence-of, is-consistent, numbers-in-sequence, sequence-of-choice, is-relaxation}

@@ -5,7 +5,7 @@ use Prim.Native.Nat.{ℕ, zero, suc, _+_, _≤_}
 use native.Mathlib.Nat.{le-of-suc-le-suc}
 use native.Mathlib.Omega.{arith}
 use lib.ListN.{length, set, replicate}
-use Rattle.sequence.specs.Next.{number, written}
+use Rattle.placing.specs.Next.{number, written}
 use Rattle.sequence.specs.Padded.{places-of}
 use Rattle.sheet.specs.declared.count.Number.{Number}
 

@@ -9,12 +9,10 @@ use native.Mathlib.Omega.{arith}
 use lib.Dec.{T}
 use Rattle.rules.specs.Lines.{Lines}
 use Rattle.rules.specs.Subscription.{subscription, Proper}
-use Rattle.rules.specs.Limits.{A}
-use Rattle.given.specs.Given.{decided, decided-past, open-within, decision-list}
+use Rattle.given.specs.Given.{decided-past, open-within, decision-list}
 use Rattle.rules.specs.Results.{is-consistent, numbers-in-sequence, sequence-of-choice}
 use Rattle.rules.specs.Sequence.{precedes, kept-slots}
 use Rattle.rules.specs.Relaxation.{kept-by-slot}
-use Rattle.sequence.specs.Next.{number}
 use Rattle.sequence.specs.Padded.{places-of}
 use Rattle.given.specs.laws.List.{no-open-item}
 use Rattle.sequence.specs.Answer.{sequence-accepted, sequence-shown, sequence-answer}

@@ -10,7 +10,7 @@ use lib.ListN.{length}
 use Rattle.rules.specs.Slots.{some-of}
 use Rattle.rules.specs.Results.{placed, smallest-ready, placed-first}
 use Rattle.rules.specs.Sequence.{without, ready}
-use Rattle.sequence.specs.laws.Next.{smallest-is-there}
+use Rattle.placing.specs.laws.Next.{smallest-is-there}
 use Rattle.rules.specs.Results.{if-ready}
 use Rattle.rules.specs.laws.Without.{without-out}
 

@@ -27,11 +27,11 @@ use Rattle.half.specs.laws.Shown.{K-is, M-less-D-is}
 use Rattle.given.specs.declared.sets.Given.{Given}
 use Rattle.forced.specs.declared.forcing.Forced.{Forced}
 use Rattle.half.specs.declared.opened.Half.{Half}
-use Rattle.settle.specs.Arrays.{ShowsSheet, Arrays}
-use Rattle.settle.specs.Sets.{decisions-of, Apart, sets-of}
+use Rattle.keeping.specs.Arrays.{ShowsSheet, Arrays}
+use Rattle.keeping.specs.Sets.{decisions-of, Apart, sets-of}
 use Rattle.settle.specs.Settled.{SettledAs}
-use Rattle.settle.specs.laws.Shown.{size-of, counted-is, forced-as, forced-shown}
-use Rattle.settle.specs.laws.Apart.{forced-apart}
+use Rattle.keeping.specs.laws.Shown.{size-of, counted-is, forced-as, forced-shown}
+use Rattle.keeping.specs.laws.Apart.{forced-apart}
 use Rattle.settle.specs.declared.settling.Settled.{Settled}
 
 module _ (n m : ℕ) (firsts seconds rows ws bs : List ℕ) (arrays : Arrays n m firsts seconds rows ws bs) (want : ℕ) (g : Given) (apart : Apart n m g) (f : Forced) (by : ForcedBy n m firsts seconds rows g f) where

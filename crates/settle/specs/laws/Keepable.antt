@@ -25,12 +25,14 @@ use Rattle.rows.specs.laws.Sets.{holds-at}
 use Rattle.graph.specs.Shown.{counted}
 use Rattle.forced.specs.Forced.{ForcedAs, ForcedBy}
 use Rattle.half.specs.Half.{HalfDecidedAs}
-use Rattle.charge.specs.Items.{numbered, Named}
-use Rattle.charge.specs.Taken.{residual-in}
-use Rattle.charge.specs.laws.Items.{numbered-option, numbered-ordering}
-use Rattle.charge.specs.laws.Shown.{ShowsKnown, shows-known, held-same}
-use Rattle.charge.specs.laws.Opened.{open-options-hold, open-orderings-hold}
-use Rattle.chains.specs.Transposed as C
+use Rattle.numbered.specs.Items.{numbered, Named}
+use Rattle.residual.specs.Taken.{residual-in}
+use Rattle.numbered.specs.laws.Items.{numbered-option, numbered-ordering}
+use Rattle.numbered.specs.Shown.{ShowsKnown}
+use Rattle.numbered.specs.laws.Items.{shows-known}
+use Rattle.residual.specs.laws.Shown.{held-same}
+use Rattle.settle.specs.laws.Opened.{open-options-hold, open-orderings-hold}
+use Rattle.graph.specs.Transposed as C
 use Rattle.bound.specs.Bound.{BoundedAs}
 use Rattle.loose.specs.Loose.{Transposed}
 use Rattle.loose.specs.laws.Shown.{Opens, loose-told}
@@ -38,12 +40,12 @@ use Rattle.given.specs.declared.sets.Given.{Given}
 use Rattle.forced.specs.declared.forcing.Forced.{Forced}
 use Rattle.half.specs.declared.opened.Half.{Half}
 use Rattle.bound.specs.declared.charging.Charged.{Charged}
-use Rattle.settle.specs.Arrays.{ShowsSheet, Arrays}
-use Rattle.settle.specs.Sets.{decisions-of, Apart, sets-of}
-use Rattle.settle.specs.Keeping.{MayKeep, needed, loose, KeptMore}
-use Rattle.settle.specs.laws.Shown.{size-of, counted-is, forced-as, forced-shown, option-stands, ordering-stands}
+use Rattle.keeping.specs.Arrays.{ShowsSheet, Arrays}
+use Rattle.keeping.specs.Sets.{decisions-of, Apart, sets-of}
+use Rattle.keeping.specs.Keeping.{MayKeep, needed, loose, KeptMore}
+use Rattle.keeping.specs.laws.Shown.{size-of, counted-is, forced-as, forced-shown, option-stands, ordering-stands}
 use Rattle.settle.specs.laws.Forcing.{size, upper-is}
-use Rattle.settle.specs.declared.keeping.More.{More}
+use Rattle.keeping.specs.declared.keeping.More.{More}
 
 not-has : (b : Bool) → (T b → ⊥) → b ≡ false
 not-has true k = absurd (k tt)

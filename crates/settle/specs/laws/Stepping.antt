@@ -11,7 +11,7 @@ use Rattle.rules.specs.Lines.{Lines}
 use Rattle.rules.specs.Subscription.{items}
 use Rattle.rules.specs.Relaxation.{ConsistentRelaxation, value-of}
 use Rattle.rules.specs.Decisions.{Decision, Open, Kept, is-open, open-items}
-use Rattle.rules.specs.Forced.{decision-of, forced}
+use Rattle.rules.specs.Forced.{decision-of}
 use Rattle.rules.specs.laws.ForcedList.{forcing-opens-nothing}
 use Rattle.rules.specs.laws.search.Reduces.{Reduces, Above, reduces-then}
 use Rattle.rules.specs.laws.search.Keepable.{reduces-keepable, keeping-closes-one}
@@ -19,34 +19,23 @@ use Rattle.rows.specs.Bits.{has}
 use Rattle.rows.specs.laws.Sets.{holds-at}
 use Rattle.forced.specs.Forced.{ForcedBy}
 use Rattle.half.specs.Half.{HalfDecidedAs}
-use Rattle.chains.specs.Transposed as C
+use Rattle.graph.specs.Transposed as C
 use Rattle.bound.specs.Bound.{BoundedAs}
 use Rattle.given.specs.declared.sets.Given.{Given}
 use Rattle.forced.specs.declared.forcing.Forced.{Forced}
 use Rattle.half.specs.declared.opened.Half.{Half}
 use Rattle.bound.specs.declared.charging.Charged.{Charged}
-use Rattle.settle.specs.Arrays.{ShowsSheet, Arrays}
-use Rattle.settle.specs.Sets.{decisions-of, Apart, sets-of}
-use Rattle.settle.specs.Keeping.{KeptMore}
-use Rattle.settle.specs.Settled.{left-as-forced, SettledAs, StepAs}
-use Rattle.settle.specs.laws.Shown.{forced-shown, option-stands, ordering-stands}
-use Rattle.settle.specs.laws.Apart.{forced-apart}
+use Rattle.keeping.specs.Arrays.{ShowsSheet, Arrays}
+use Rattle.keeping.specs.Sets.{decisions-of, Apart, sets-of}
+use Rattle.keeping.specs.Keeping.{KeptMore}
+use Rattle.settle.specs.Settled.{left-with, SettledAs, StepAs, AfterForcing}
+use Rattle.keeping.specs.laws.Shown.{forced-shown, option-stands, ordering-stands}
+use Rattle.keeping.specs.laws.Apart.{forced-apart}
 use Rattle.settle.specs.laws.Forcing.{size, fine, over-settles, forced-settles}
 use Rattle.settle.specs.laws.Keepable.{no-contradiction-here, charged-limit, keeps-keepable}
-use Rattle.settle.specs.declared.keeping.More.{More}
+use Rattle.keeping.specs.declared.keeping.More.{More}
 use Rattle.settle.specs.declared.settling.Settled.{Settled}
 use Rattle.settle.specs.declared.settling.Step.{Step}
-
--- ---- the same by another name of the table
-pub turned-at : {known table after : List ℕ} {n : ℕ} → known ≡ table → C.Transposed known n n after → C.Transposed table n n after
-turned-at {known} {table} {after} {n} e w = subst (λ z. C.Transposed z n n after) e w
-
-pub bounded-at : {known table firsts seconds ws bs : List ℕ} {n m opens open-orderings : ℕ} {c : Charged} → known ≡ table → BoundedAs known firsts seconds n m ws bs opens open-orderings c → BoundedAs table firsts seconds n m ws bs opens open-orderings c
-bounded-at {known} {table} {firsts} {seconds} {ws} {bs} {n} {m} {opens} {open-orderings} {c} e w = subst (λ z. BoundedAs z firsts seconds n m ws bs opens open-orderings c) e w
-
-pub kept-at : {known table after firsts seconds options orderings : List ℕ} {n m opens open-orderings spare : ℕ} {g : Given} {k : More} → known ≡ table
-    → KeptMore known after firsts seconds n m opens open-orderings options orderings spare g k → KeptMore table after firsts seconds n m opens open-orderings options orderings spare g k
-kept-at {known} {table} {after} {firsts} {seconds} {options} {orderings} {n} {m} {opens} {open-orderings} {spare} {g} {k} e w = subst (λ z. KeptMore z after firsts seconds n m opens open-orderings options orderings spare g k) e w
 
 -- An end is settled: there is no other round.
 pub step-ended : (n m : ℕ) (firsts seconds rows ws bs : List ℕ) (want : ℕ) (g : Given) (x : Step) → x .more ≡ false → SettledAs n m firsts seconds rows ws bs want g (x .settled) → StepAs n m firsts seconds rows ws bs want g x
@@ -56,9 +45,9 @@ step-ended n m firsts seconds rows ws bs want g x e w = record { settled = λ _.
     never q = subst T (sym q ∙ e) tt
 
 pub step-forced : (n m : ℕ) (firsts seconds rows ws bs : List ℕ) (arrays : Arrays n m firsts seconds rows ws bs) (want : ℕ) (g : Given) (apart : Apart n m g) (f : Forced) (by : ForcedBy n m firsts seconds rows g f)
-    (h : Half) (half : HalfDecidedAs f n m ws bs h) (e : f .contradiction ≡ false) {x : Step} → x ≡ left-as-forced f h → StepAs n m firsts seconds rows ws bs want g x
-step-forced n m firsts seconds rows ws bs arrays want g apart f by h half e q = subst (StepAs n m firsts seconds rows ws bs want g) (sym q)
-    (step-ended n m firsts seconds rows ws bs want g (left-as-forced f h) refl (forced-settles n m firsts seconds rows ws bs arrays want g apart f by h half e))
+    (h : Half) (half : HalfDecidedAs f n m ws bs h) (e : f .contradiction ≡ false) (left : Given) → left ≡ sets-of f → (x : Step) → x ≡ left-with left h false → StepAs n m firsts seconds rows ws bs want g x
+step-forced n m firsts seconds rows ws bs arrays want g apart f by h half e left sets x is = subst (StepAs n m firsts seconds rows ws bs want g) (sym (is ∙ ap (λ z. left-with z h false) sets))
+    (step-ended n m firsts seconds rows ws bs want g (left-with (sets-of f) h false) refl (forced-settles n m firsts seconds rows ws bs arrays want g apart f by h half e))
 
 -- ---- after the forced decisions
 module _ (n m : ℕ) (firsts seconds rows ws bs : List ℕ) (arrays : Arrays n m firsts seconds rows ws bs) (want : ℕ) (g : Given) (apart : Apart n m g) (f : Forced) (by : ForcedBy n m firsts seconds rows g f)
@@ -163,17 +152,36 @@ module _ (n m : ℕ) (firsts seconds rows ws bs : List ℕ) (arrays : Arrays n m
         go false true x p q = absurd (subst T x tt)
         go false false x p q = λ i. record { kept = p refl i; dropped = kept .dropped i; «kept_orderings» = q refl i; «dropped_orderings» = kept .dropped-orderings i }
 
-    pub step-kept : StepAs n m firsts seconds rows ws bs want g (record {
-      settled = record { over = false; given = k .given; «open_options» = h .«open_options»; «open_orderings» = h .«open_orderings»; lower = h .lower };
-      more = k .more;
-    })
+    pub step-kept : StepAs n m firsts seconds rows ws bs want g (left-with (k .given) h (k .more))
     step-kept = record {
-      settled = λ q. subst (λ z. SettledAs n m firsts seconds rows ws bs want g (record { over = false; given = z; «open_options» = h .«open_options»; «open_orderings» = h .«open_orderings»; lower = h .lower })) (sym (nothing-moved q))
+      settled = λ q. subst (λ z. SettledAs n m firsts seconds rows ws bs want g (left-with z h false .settled)) (sym (nothing-moved q))
           (forced-settles n m firsts seconds rows ws bs arrays want g apart f by h half e);
       apart = λ _. kept-apart;
       fewer = kept-fewer;
       reduces = λ _ s sh. kept-reduces s sh;
     }
+
+-- ---- the same by the names that the code has for the table and for the forced decisions
+module _ (n m : ℕ) (firsts seconds ws bs known after : List ℕ) (want : ℕ) (f : Forced) (h : Half) (c : Charged) (table : known ≡ f .known) (turn : C.Transposed known n n after)
+    (bounded : BoundedAs known firsts seconds n m ws bs (h .«open_options») (h .«open_orderings») c) where
+  turned-here : C.Transposed (f .known) n n after
+  turned-here = subst (λ z. C.Transposed z n n after) table turn
+
+  bounded-here : BoundedAs (f .known) firsts seconds n m ws bs (h .«open_options») (h .«open_orderings») c
+  bounded-here = subst (λ z. BoundedAs z firsts seconds n m ws bs (h .«open_options») (h .«open_orderings») c) table bounded
+
+  pub over-after-forcing : (x : Step) → x .settled .over ≡ true → x .more ≡ false → h .upper < want + c .charged → AfterForcing n m firsts seconds ws bs want f h x
+  over-after-forcing x o q l = record { step = λ rows arrays g apart by half e. step-charged n m firsts seconds rows ws bs arrays want g apart f by h half e after turned-here c bounded-here x o q l }
+
+  pub kept-after-forcing : (spare : ℕ) (g : Given) → g ≡ sets-of f → (k : More) → KeptMore known after firsts seconds n m (h .«open_options») (h .«open_orderings») (c .«left_options») (c .«left_orderings») spare g k
+      → want + c .charged ≤ h .upper → spare ≡ h .upper - want - c .charged → (x : Step) → x ≡ left-with (k .given) h (k .more) → AfterForcing n m firsts seconds ws bs want f h x
+  kept-after-forcing spare g sets k kept low es x is = record {
+    step = λ rows arrays g apart by half e. subst (StepAs n m firsts seconds rows ws bs want g) (sym is) (step-kept n m firsts seconds rows ws bs arrays want g apart f by h half e after turned-here c bounded-here spare k kept-here low es);
+  }
+    where
+      kept-here : KeptMore (f .known) after firsts seconds n m (h .«open_options») (h .«open_orderings») (c .«left_options») (c .«left_orderings») spare (sets-of f) k
+      kept-here = subst (λ z. KeptMore (f .known) after firsts seconds n m (h .«open_options») (h .«open_orderings») (c .«left_options») (c .«left_orderings») spare z k) sets
+          (subst (λ z. KeptMore z after firsts seconds n m (h .«open_options») (h .«open_orderings») (c .«left_options») (c .«left_orderings») spare g k) table kept)
 
 -- ---- round after round
 pub settles-then : (n m : ℕ) (firsts seconds rows ws bs : List ℕ) (want : ℕ) (g : Given) (x : Step) → StepAs n m firsts seconds rows ws bs want g x → x .more ≡ true

@@ -11,8 +11,8 @@ use Rattle.sheet.specs.declared.answer.Answer.{Answer}
 use Rattle.sheet.specs.declared.answer.Answer.the-variants.{Accepted, Refused}
 use Rattle.sheet.specs.declared.answer.Refusal.{Refusal}
 use Rattle.sheet.specs.declared.answer.Refusal.the-variants.{OutputTooShort, WrongDecisions}
-use Rattle.writer.specs.Write.{put}
-use Rattle.writer.proofs.PutLaws.{put-whole}
+use Rattle.print.specs.Put.{put}
+use Rattle.print.proofs.PutLaws.{put-whole}
 use Rattle.wire.specs.Packed.{packed-answer, Placed, Fits}
 use Rattle.wire.specs.Lent.{is-accepted, refused, with-list, lent, written}
 

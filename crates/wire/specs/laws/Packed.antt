@@ -1,33 +1,14 @@
 -- The four numbers of a packed answer can be told apart.
-use Prim.Native.Nat.{ℕ, _≤_, _<_}
+use Prim.Native.Nat.{ℕ, _<_}
 use mathlib.Core.Path.{_≡_, ap, subst, sym, _∙_}
 use native.Mathlib.Omega.{arith}
 use Rattle.sheet.specs.Answer.{number-of}
 use Rattle.sheet.specs.declared.answer.Answer.{Answer}
 use Rattle.sheet.specs.declared.answer.Answer.the-variants.{Accepted, Refused}
 use Rattle.sheet.specs.declared.answer.Refusal.{Refusal}
-use Rattle.sheet.specs.declared.answer.Refusal.the-variants.{SheetTooLong, NoTrailer, BadTrailer, Misshapen, OutsideRange, TooManyLines, SubscribedTwice, OneOptionTwice}
-use Rattle.sheet.specs.declared.answer.Refusal.the-variants.{NotSubscribed, SamePairAgain, ToleranceTooLarge, NotRecorded, OutputTooShort, WrongDecisions, NotConsistent}
+use Rattle.sheet.proofs.AnswerLaws.{refusal-number}
 use Rattle.shape.specs.declared.scan.Place.{Place}
 use Rattle.wire.specs.Packed.{packed, packed-answer, Placed, Fits}
-
--- A refusal's number is 1 to 15, so that 0 stands for a success alone.
-pub refusal-number : (why : Refusal) → (1 ≤ number-of why) × (number-of why ≤ 15)
-refusal-number SheetTooLong = (omega arith, omega arith)
-refusal-number NoTrailer = (omega arith, omega arith)
-refusal-number BadTrailer = (omega arith, omega arith)
-refusal-number Misshapen = (omega arith, omega arith)
-refusal-number OutsideRange = (omega arith, omega arith)
-refusal-number TooManyLines = (omega arith, omega arith)
-refusal-number SubscribedTwice = (omega arith, omega arith)
-refusal-number OneOptionTwice = (omega arith, omega arith)
-refusal-number NotSubscribed = (omega arith, omega arith)
-refusal-number SamePairAgain = (omega arith, omega arith)
-refusal-number ToleranceTooLarge = (omega arith, omega arith)
-refusal-number NotRecorded = (omega arith, omega arith)
-refusal-number OutputTooShort = (omega arith, omega arith)
-refusal-number WrongDecisions = (omega arith, omega arith)
-refusal-number NotConsistent = (omega arith, omega arith)
 
 -- Equal packed answers have equal parts.
 pub packed-once : (n l c k n' l' c' k' : ℕ) → l < 65536 → c < 65536 → k < 65536 → l' < 65536 → c' < 65536 → k' < 65536

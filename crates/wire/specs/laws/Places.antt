@@ -1,12 +1,17 @@
--- Places in use, one by one.
-use Prim.Native.Nat.{ℕ, _+_, _≤_}
+-- Places one by one, and how many are in use.
+use Prim.Native.Nat.{ℕ, _+_, _-_, _≤_}
 use mathlib.Core.Path.{_≡_, refl, ap, _∙_}
 use mathlib.Core.List.{List}
+use native.Mathlib.Omega.{arith}
 use native.Mathlib.Nat.{le-antisymm}
 use native.Mathlib.Numerals.{add-one}
 use Rattle.rules.specs.Slots.{pick, sum, over}
 use Rattle.sheet.specs.declared.count.Number.{Number}
 use Rattle.wire.specs.Places.{number-at, is-used, places-in-use}
+
+-- A place counts from 1, an entry from 0.
+pub entry-of : (i : ℕ) → i + 1 - 1 ≡ i
+entry-of i = omega arith
 
 module _ (places : List Number) where
   abbrev counted : ℕ → ℕ

@@ -1,75 +1,65 @@
 -- Each turn charges one chain more, or none.
-use mathlib.Core.Path.{_≡_, refl, sym}
+use borrow.Author.Needs.{needs}
+use mathlib.Core.Path.{_≡_, refl}
 use native.Mathlib.Omega.{arith}
 use lib.ListN.{length}
-use Rattle.bound.specs.Bound.{KeepsCharged, HintsAt}
-use Rattle.bound.specs.laws.Bound.{charged-nothing, charged-once-more, hints-here}
-use borrow.Author.Needs.{needs}
+use Rattle.hints.specs.Hints.{HintsAt}
+use Rattle.hints.specs.laws.Hints.{hints-here}
+use Rattle.bound.specs.Bound.{KeepsCharged}
+use Rattle.bound.specs.laws.Bound.{charged-nothing, charged-once-more}
 use Rattle.bound.proofs.charging.charge_items.Statement.{statement}
 use Rattle.bound.proofs.charging.charge_items.Tie as tie
-use Rattle.bound.proofs.charging.charge_items.Reads as reads
-use Rattle.bound.proofs.charging.charge_items.Lts as lts
-use Rattle.bound.proofs.charging.charge_one.Reads as charge-one-reads
-use Rattle.bound.proofs.hints.hints_after.Reads as hints-after-reads
-use Rattle.bound.proofs.hints.next_holding.Reads as next-holding-reads
-use Rattle.bound.proofs.hints.next_item.Reads as next-item-reads
 
 abbrev Inv-loop : tie.InvT-loop
-Inv-loop known after first second n m open-options open-orderings most enough options₀ orderings₀ k₀ x₀ turns₀ options orderings k x turns = KeepsCharged known first second n m (k₀ .charged) (k .charged) options₀ orderings₀ options orderings × (length options ≡ length options₀) × (length orderings ≡ length orderings₀) × HintsAt (k .charged) k
+Inv-loop known after first second r options₀ orderings₀ k₀ x₀ turns₀ options orderings k x turns = KeepsCharged known first second (r .n) (r .m) (k₀ .charged) (k .charged) options₀ orderings₀ options orderings × (length options ≡ length options₀) × (length orderings ≡ length orderings₀) × HintsAt (k .charged) k
 
 abbrev μ-loop : tie.MeasureT-loop
-μ-loop known after first second n m open-options open-orderings most enough options₀ orderings₀ k₀ x₀ turns₀ options orderings k x turns = turns
+μ-loop known after first second r options₀ orderings₀ k₀ x₀ turns₀ options orderings k x turns = turns
 
 loop-holds : tie.Need-loop-holds Inv-loop μ-loop
 loop-holds c = (charged-nothing (c .before .before .before .before .before .before .pre .6) (c .before .before .before .before .before .before .pre .5), refl, refl, c .before .before .before .before .before .before .pre .7)
 
 same-length : tie.Need-same-length Inv-loop μ-loop
-same-length c = c .before .before .before .loop .inv .1
+same-length c = c .before .before .before .before .loop .inv .1
 
 same-length-2 : tie.Need-same-length-2 Inv-loop μ-loop
-same-length-2 c = c .before .before .before .loop .inv .2
+same-length-2 c = c .before .before .before .before .loop .inv .2
 
 returns : tie.Need-returns Inv-loop μ-loop
-returns c = (c .before .before .before .loop .inv .0, c .before .before .before .loop .inv .3)
+returns c = (c .before .before .before .before .loop .inv .0, c .before .before .before .before .loop .inv .3)
 
 next-holding-requires : tie.Need-next-holding-requires Inv-loop μ-loop
-next-holding-requires c κs = (c .before .before .before .before .loop .inv .0 .left-in .ordering-size, c .before .before .before .before .before .before .before .before .before .before .before .pre .0 .few-orderings)
+next-holding-requires c κs = (c .before .before .before .before .before .loop .inv .0 .left-in .ordering-size, c .before .before .before .before .before .before .before .before .before .before .before .before .pre .0 .few-orderings)
 
 add-if2 : tie.Need-add-if2 Inv-loop μ-loop
-add-if2 c = omega (arith, c .before .before .before .before .before .before .before .before .before .before .before .before .pre .0 .few-orderings)
+add-if2 c = omega (arith, c .before .before .before .before .before .before .before .before .before .before .before .before .before .before .pre .0 .few-orderings)
 
 same-length-3 : tie.Need-same-length-3 Inv-loop μ-loop
-same-length-3 c = c .before .before .before .before .before .before .loop .inv .1
+same-length-3 c = c .before .before .before .before .before .before .before .before .loop .inv .1
 
 same-length-4 : tie.Need-same-length-4 Inv-loop μ-loop
-same-length-4 c = c .before .before .before .before .before .before .loop .inv .2
+same-length-4 c = c .before .before .before .before .before .before .before .before .loop .inv .2
 
 returns-2 : tie.Need-returns-2 Inv-loop μ-loop
-returns-2 c = (c .before .before .before .before .before .before .loop .inv .0, c .before .before .before .before .before .before .loop .inv .3)
-
-slice-aggregate-charge-one : tie.Need-slice-aggregate-charge-one Inv-loop μ-loop
-slice-aggregate-charge-one c = sym (c .before .before .before .before .before .before .before .before .before .loop .inv .3 .soft-size)
-
-slice-aggregate-charge-one-2 : tie.Need-slice-aggregate-charge-one-2 Inv-loop μ-loop
-slice-aggregate-charge-one-2 c = sym (c .before .before .before .before .before .before .before .before .before .before .loop .inv .3 .held-size)
+returns-2 c = (c .before .before .before .before .before .before .before .before .loop .inv .0, c .before .before .before .before .before .before .before .before .loop .inv .3)
 
 charge-one-requires : tie.Need-charge-one-requires Inv-loop μ-loop
-charge-one-requires c κs = (c .before .before .before .before .before .before .before .before .before .before .before .before .before .before .before .before .before .before .before .pre .0, c .before .before .before .before .before .before .before .before .before .before .before .before .before .before .before .before .before .before .before .pre .1, c .before .before .before .before .before .before .before .before .before .before .before .before .before .before .before .before .before .before .before .pre .2, omega (arith, c .before .before .before .before .before .before .before .before .before .before .before .before .loop .inv .3 .soft-size), omega (arith, c .before .before .before .before .before .before .before .before .before .before .before .before .loop .inv .3 .held-size), c .before .before .before .before .before .before .before .before .before .before .before .before .before .before .before .before .before .before .before .pre .3, c .before .before .before .before .before .before .before .before .before .before .before .before .loop .inv .0 .left-in)
+charge-one-requires c κs = (c .before .before .before .before .before .before .before .before .before .before .before .before .before .before .before .before .before .pre .0, c .before .before .before .before .before .before .before .before .before .before .before .before .before .before .before .before .before .pre .1, c .before .before .before .before .before .before .before .before .before .before .before .before .before .before .before .before .before .pre .2, c .before .before .before .before .before .before .before .before .before .before .loop .inv .3, c .before .before .before .before .before .before .before .before .before .before .before .before .before .before .before .before .before .pre .3, c .before .before .before .before .before .before .before .before .before .before .loop .inv .0 .left-in)
 
 hints-after-requires : tie.Need-hints-after-requires Inv-loop μ-loop
-hints-after-requires c κs = (let e = c .before .before .before .before .before .before .charge-one .ensures .left-in in let f = c .before .before .before .before .before .before .charge-one .ensures .few in let g = c .before .before .before .before .before .before .before .before .before .before .before .before .before .before .before .before .before .before .before .before .before .before .before .before .before .before .pre .4 in (c .before .before .before .before .before .before .before .before .before .before .before .before .before .before .before .before .before .before .before .before .before .before .before .before .before .before .pre .0, e .option-size, e .ordering-size, omega arith, c .before .before .before .before .before .before .before .before .before .before .before .before .before .before .before .before .before .before .before .loop .inv .3))
+hints-after-requires c κs = (let e = c .before .before .before .before .before .before .charge-one .ensures .left-in in let f = c .before .before .before .before .before .before .charge-one .ensures .few in let g = c .before .before .before .before .before .before .before .before .before .before .before .before .before .before .before .before .before .before .before .before .before .before .before .before .pre .4 in (c .before .before .before .before .before .before .before .before .before .before .before .before .before .before .before .before .before .before .before .before .before .before .before .before .pre .0, e .option-size, e .ordering-size, omega arith, c .before .before .before .before .before .before .before .before .before .before .before .before .before .before .before .before .before .loop .inv .3))
 
 next-item-requires : tie.Need-next-item-requires Inv-loop μ-loop
 next-item-requires c κs = search needs
 
 sub-turns : tie.Need-sub-turns Inv-loop μ-loop
-sub-turns c = omega (arith, c .before .before .before .before .before .before .before .before .before .before .before .before .before .before .before .before .before .before .before .before .loop-test .taken)
+sub-turns c = omega (arith, c .before .before .before .before .before .before .before .before .before .before .before .before .before .before .before .before .before .before .loop-test .taken)
 
 loop-less : tie.Need-loop-less Inv-loop μ-loop
-loop-less c = omega (arith, c .before .before .before .before .before .before .before .before .before .before .before .before .before .before .before .before .before .before .before .before .loop-test .taken)
+loop-less c = omega (arith, c .before .before .before .before .before .before .before .before .before .before .before .before .before .before .before .before .before .before .loop-test .taken)
 
 loop-again : tie.Need-loop-again Inv-loop μ-loop
-loop-again c = (charged-once-more (c .before .before .before .before .before .before .before .before .before .before .before .before .before .before .before .before .before .before .before .before .before .loop .inv .0) (c .before .before .before .before .before .before .before .before .charge-one .ensures) (omega (arith, c .before .before .before .before .before .before .before .before .before .before .before .before .before .before .before .before .before .before .before .before .before .before .before .before .before .before .before .before .pre .4, c .before .before .before .before .before .before .before .before .before .before .before .before .before .before .before .before .before .before .if1 .left)) (c .before .hints-after .ensures .is), search (needs, c .before .before .before .before .before .before .slice-known3 .given, c .before .before .before .before .before .before .before .before .before .before .before .before .before .before .before .before .before .before .before .before .before .loop .inv .1), search (needs, c .before .before .before .before .slice-known4 .given, c .before .before .before .before .before .before .before .before .before .before .before .before .before .before .before .before .before .before .before .before .before .loop .inv .2), hints-here (c .before .hints-after .ensures))
+loop-again c = (charged-once-more (c .before .before .before .before .before .before .before .before .before .before .before .before .before .before .before .before .before .before .before .loop .inv .0) (c .before .before .before .before .before .before .before .before .charge-one .ensures) (omega (arith, c .before .before .before .before .before .before .before .before .before .before .before .before .before .before .before .before .before .before .before .before .before .before .before .before .before .before .pre .4, c .before .before .before .before .before .before .before .before .before .before .before .before .before .before .before .if1 .left)) (c .before .hints-after .ensures .is), search (needs, c .before .before .before .before .before .before .slice-known3 .given, c .before .before .before .before .before .before .before .before .before .before .before .before .before .before .before .before .before .before .before .loop .inv .1), search (needs, c .before .before .before .before .slice-known4 .given, c .before .before .before .before .before .before .before .before .before .before .before .before .before .before .before .before .before .before .before .loop .inv .2), hints-here (c .before .hints-after .ensures))
 
 same-length-5 : tie.Need-same-length-5 Inv-loop μ-loop
 same-length-5 c = c .before .loop .inv .1
@@ -95,8 +85,6 @@ charge-items-spec =
     same-length-3
     same-length-4
     returns-2
-    slice-aggregate-charge-one
-    slice-aggregate-charge-one-2
     charge-one-requires
     hints-after-requires
     next-item-requires

@@ -1,12 +1,15 @@
 -- Whatever the finder gives: the charge checks it.
-use Rattle.bound.specs.laws.Bound.{charged-one}
 use borrow.Author.Needs.{needs}
+use mathlib.Core.Path.{sym}
+use Rattle.bound.specs.laws.Bound.{charged-one}
 use Rattle.bound.proofs.charging.charge_one.Statement.{statement}
 use Rattle.bound.proofs.charging.charge_one.Tie as tie
-use Rattle.bound.proofs.charging.charge_one.Reads as reads
-use Rattle.bound.proofs.charging.charge_one.Lts as lts
-use Rattle.chains.proofs.find.Reads as find-reads
-use Rattle.charge.proofs.charge.Reads as charge-reads
+
+slice-aggregate-find : tie.Need-slice-aggregate-find
+slice-aggregate-find c = sym (c .before .before .before .before .before .before .before .before .before .pre .3 .soft-size)
+
+slice-aggregate-find-2 : tie.Need-slice-aggregate-find-2
+slice-aggregate-find-2 c = sym (c .before .before .before .before .before .before .before .before .before .before .pre .3 .held-size)
 
 find-requires : tie.Need-find-requires
 find-requires c κs = search needs
@@ -25,4 +28,12 @@ returns c = charged-one (c .before .before .before .before .charge .ensures)
 
 pub charge-one-spec : {M : Type 1} → statement M
 charge-one-spec =
-    tie.close (tie.spec find-requires charge-requires same-length same-length-2 returns)
+    tie.close
+    (tie.spec
+    slice-aggregate-find
+    slice-aggregate-find-2
+    find-requires
+    charge-requires
+    same-length
+    same-length-2
+    returns)

@@ -1,6 +1,6 @@
 -- Nothing is taken unless the chain closes.
 use borrow.Author.Needs.{needs}
-use Rattle.charge.specs.laws.Chain.{not-false}
+use Rattle.links.specs.laws.Chain.{not-false}
 use Rattle.charge.specs.laws.Charges.{nothing-charged, all-charged, positive}
 use Rattle.charge.proofs.charging.charge.Statement.{statement}
 use Rattle.charge.proofs.charging.charge.Tie as tie

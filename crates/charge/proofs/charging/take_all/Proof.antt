@@ -1,11 +1,10 @@
 -- Each turn has one member more give what is still wanted of it.
 use mathlib.Core.Logic.{⊎-elim}
 use Prim.Native.Nat.{_≤_, _-_}
-use Prim.Native.Nat.{_≤_, _-_}
 use native.Mathlib.Omega.{arith}
 use native.Mathlib.Nat.{le-antisymm}
 use Rattle.charge.specs.Charges.{Gave}
-use Rattle.charge.specs.laws.Taken.{left-lower}
+use Rattle.residual.specs.laws.Taken.{left-lower}
 use Rattle.charge.specs.laws.Charges.{gave-none, gave-already, gave-more, gave-at, gave-as}
 use Rattle.charge.proofs.charging.take_all.Statement.{statement}
 use Rattle.charge.proofs.charging.take_all.Tie as tie

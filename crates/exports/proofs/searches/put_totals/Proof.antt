@@ -1,6 +1,6 @@
 -- Two stores.
 use borrow.Author.Needs.{needs}
-use Rattle.wire.specs.laws.Put.{put-two}
+use Rattle.entries.specs.laws.Put.{put-two}
 use Rattle.exports.proofs.searches.put_totals.Statement.{statement}
 use Rattle.exports.proofs.searches.put_totals.Tie as tie
 

@@ -2,7 +2,7 @@
 use borrow.Author.Needs.{needs}
 use Prim.Native.Nat.{_+_, _*_, _-_, _≤_}
 use native.Mathlib.Omega.{arith}
-use Rattle.wire.specs.laws.Taken.{Taken, taken-none, taken-next, taken-all}
+use Rattle.entries.specs.laws.Taken.{Taken, taken-none, taken-next, taken-all}
 use Rattle.fields.specs.Record.{two-at}
 use Rattle.fields.proofs.record_bytes.twos_32.Statement.{statement}
 use Rattle.fields.proofs.record_bytes.twos_32.Tie as tie

@@ -2,7 +2,7 @@
 use borrow.Author.Needs.{needs}
 use native.Mathlib.Omega.{arith}
 use lib.ListN.{length-set}
-use Rattle.wire.specs.laws.Put.{put-four}
+use Rattle.entries.specs.laws.Put.{put-four}
 use Rattle.figures.proofs.limits_out.put_four.Statement.{statement}
 use Rattle.figures.proofs.limits_out.put_four.Tie as tie
 

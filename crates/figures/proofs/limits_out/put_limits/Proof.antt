@@ -3,7 +3,7 @@ use borrow.Author.Needs.{needs}
 use mathlib.Core.Path.{_∙_}
 use native.Mathlib.Omega.{arith}
 use lib.ListN.{length-set}
-use Rattle.wire.specs.laws.Put.{put-same-length}
+use Rattle.entries.specs.laws.Put.{put-same-length}
 use Rattle.figures.specs.laws.Limits.{still-long, limits-put}
 use Rattle.figures.proofs.limits_out.put_limits.Statement.{statement}
 use Rattle.figures.proofs.limits_out.put_limits.Tie as tie

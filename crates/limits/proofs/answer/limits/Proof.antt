@@ -4,10 +4,9 @@ use native.Mathlib.Omega.{arith}
 use borrow.Author.Needs.{needs}
 use borrow.Author.Tests.{not-true, not-false}
 use lib.ListN.{length}
-use Rattle.rules.specs.Results.{limits-of}
 use Rattle.limits.specs.laws.Answer.{limits-told, limits-not-recorded, limits-wrong-decisions}
 use Rattle.sheet.specs.IsRecorded.{is-recorded}
-use Rattle.sheet.proofs.CheckTurnLaws.{recorded-limits}
+use Rattle.sheet.proofs.ObeyLaws.{recorded-limits}
 use Rattle.limits.proofs.answer.limits.Statement.{statement}
 use Rattle.limits.proofs.answer.limits.Tie as tie
 

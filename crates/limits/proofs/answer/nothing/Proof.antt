@@ -1,7 +1,7 @@
 -- Every entry is open or zero.
 use mathlib.Core.Path.{refl}
 use borrow.Author.Needs.{needs}
-use Rattle.limits.specs.Cells.{no-limit}
+use Rattle.cells.specs.Cells.{no-limit}
 use Rattle.limits.proofs.answer.nothing.Statement.{statement}
 use Rattle.limits.proofs.answer.nothing.Tie as tie
 

@@ -1,6 +1,6 @@
 -- Every entry is open or zero.
 use borrow.Author.Needs.{needs}
-use Rattle.limits.specs.Cells.{no-limit}
+use Rattle.cells.specs.Cells.{no-limit}
 use Rattle.limits.proofs.whole.contradictory.Statement.{statement}
 use Rattle.limits.proofs.whole.contradictory.Tie as tie
 

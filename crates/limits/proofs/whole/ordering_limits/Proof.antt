@@ -4,8 +4,7 @@ use Prim.Native.Nat.{_-_, _≤_}
 use native.Mathlib.Nat.{le-antisymm}
 use native.Mathlib.Omega.{arith}
 use borrow.Author.Needs.{needs}
-use Rattle.rules.specs.Results.{ordering-limit}
-use Rattle.limits.specs.Cells.{no-limit, ordering-limit-in}
+use Rattle.cells.specs.Cells.{no-limit, ordering-limit-in}
 use Rattle.half.specs.Filled.{filled}
 use Rattle.half.specs.laws.Filled.{filled-none, filled-step}
 use Rattle.limits.proofs.whole.ordering_limits.Statement.{statement}

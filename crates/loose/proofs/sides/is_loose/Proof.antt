@@ -1,8 +1,8 @@
 -- Nothing open lies after the item, or nothing before it.
 use native.Mathlib.Omega.{arith}
 use borrow.Author.Needs.{needs}
-use Rattle.charge.specs.laws.Items.{first-slots, second-slots}
-use Rattle.charge.specs.laws.Chain.{not-false}
+use Rattle.links.specs.laws.Links.{first-slots, second-slots}
+use Rattle.links.specs.laws.Chain.{not-false}
 use Rattle.loose.specs.laws.Sides.{told-not, free-after, free-before}
 use Rattle.loose.proofs.sides.is_loose.Statement.{statement}
 use Rattle.loose.proofs.sides.is_loose.Tie as tie

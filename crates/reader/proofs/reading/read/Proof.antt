@@ -8,14 +8,14 @@ use Rattle.shape.specs.Trailer.{is-trailer}
 use Rattle.shape.specs.declared.trailer.LastLine.{LastLine}
 use Rattle.shape.proofs.LineEndLaws.{trailer-lines}
 use Rattle.reader.specs.Read.{read-sheet}
-use Rattle.reader.proofs.LineLaws.{to-end}
+use Rattle.lines.proofs.LineLaws.{to-end}
 use Rattle.reader.proofs.ReadLaws.{read-on, read-not}
 use Rattle.reader.proofs.reading.read.Statement.{statement}
 use Rattle.reader.proofs.reading.read.Tie as tie
 use Rattle.reader.proofs.reading.read.Reads as reads
 use Rattle.reader.proofs.reading.read.Lts as lts
 use Rattle.reader.proofs.reading.read_trailed.Reads as read-trailed-reads
-use Rattle.reader.proofs.result.refused.Reads as refused-reads
+use Rattle.lines.proofs.refused.Reads as refused-reads
 use Rattle.shape.proofs.numbers_of.Reads as numbers-of-reads
 use Rattle.shape.proofs.is_trailer.Reads as is-trailer-reads
 use Rattle.shape.proofs.last_line.Reads as last-line-reads

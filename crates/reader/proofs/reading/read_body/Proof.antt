@@ -11,7 +11,7 @@ use Rattle.reader.proofs.reading.read_body.Statement.{statement}
 use Rattle.reader.proofs.reading.read_body.Tie as tie
 use Rattle.reader.proofs.reading.read_body.Reads as reads
 use Rattle.reader.proofs.reading.read_body.Lts as lts
-use Rattle.reader.proofs.lines.read_lines.Reads as read-lines-reads
+use Rattle.lines.proofs.read_lines.Reads as read-lines-reads
 use Rattle.shape.proofs.first_misshapen.Reads as first-misshapen-reads
 use Rattle.sheet.proofs.sheet.Sheet.sized.Reads as sized-reads
 

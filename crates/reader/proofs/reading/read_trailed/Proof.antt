@@ -11,7 +11,7 @@ use Rattle.reader.proofs.reading.read_trailed.Reads as reads
 use Rattle.reader.proofs.reading.read_trailed.Lts as lts
 use Rattle.reader.proofs.reading.bad_trailer.Reads as bad-trailer-reads
 use Rattle.reader.proofs.reading.read_body.Reads as read-body-reads
-use Rattle.reader.proofs.result.refused.Reads as refused-reads
+use Rattle.lines.proofs.refused.Reads as refused-reads
 
 -- src/reading.rt:63:8
 bad-trailer-requires : tie.Need-bad-trailer-requires

@@ -19,7 +19,7 @@ cast-put-two-2 : tie.Need-cast-put-two-2
 cast-put-two-2 c = search needs
 
 put-two-requires : tie.Need-put-two-requires
-put-two-requires c κs = value-fits _ (c .before .before .before .before .before .before .before .before .before .before .before .before .before .pre .0) _ _ (c .before .before .before .before .before .before .before .before .before .before .before .search .ensures) (c .before .before .before .before .before .before .before .before .before .sequence .ensures) (c .before .before .before .before .before .before .before .before .before .before .before .before .before .pre .1)
+put-two-requires c κs = value-fits _ (c .before .before .before .before .before .before .before .before .before .before .before .before .before .pre .0) _ _ (c .before .before .before .before .before .before .before .before .before .before .before .search .ensures) (c .before .before .before .before .before .before .before .before .before .sequence .ensures) (c .before .before .before .before .before .before .before .before .before .before .before .before .before .pre .1) .fits
 
 put-places-requires : tie.Need-put-places-requires
 put-places-requires c κs = places-fit _ (c .before .before .before .before .before .before .before .before .before .before .before .before .before .before .before .before .before .pre .0) _ _ (c .before .before .before .before .before .before .before .before .before .before .before .before .before .before .before .search .ensures) (c .before .before .before .before .before .before .before .before .before .before .before .before .before .sequence .ensures) (c .before .before .before .before .before .before .before .before .before .before .before .before .before .before .before .before .before .pre .1) (c .before .before .before .put-two .ensures)

@@ -1,7 +1,7 @@
 -- The sheet's answer decides which of the two texts is printed.
 use mathlib.Core.Path.{sym}
 use borrow.Author.Needs.{needs}
-use Rattle.report.specs.laws.Appended.{appended-same, room-same}
+use Rattle.listing.specs.laws.Appended.{appended-same, room-same}
 use Rattle.report.specs.laws.Reading.{report-of-accepted, report-of-refused, accepted-is-recorded}
 use Rattle.report.proofs.page.put_report.Statement.{statement}
 use Rattle.report.proofs.page.put_report.Tie as tie

@@ -1,20 +1,20 @@
 -- What the branch leaves is an answer by the law `found-answers`.
 use mathlib.Core.Path.{sym, subst, ap}
 use native.Mathlib.Omega.{arith}
-use Rattle.settle.specs.Sets.{Apart}
-use Rattle.settle.specs.laws.Apart.{nothing-apart}
-use Rattle.search.specs.laws.Whole.{found-answers}
+use Rattle.keeping.specs.Sets.{Apart}
+use Rattle.keeping.specs.laws.Apart.{nothing-apart}
+use Rattle.search.specs.laws.Found.{found-answers}
 use borrow.Author.Needs.{needs}
 use Rattle.search.proofs.found.found_in.Statement.{statement}
 use Rattle.search.proofs.found.found_in.Tie as tie
 use Rattle.search.proofs.found.found_in.Reads as reads
 use Rattle.search.proofs.found.found_in.Lts as lts
-use Rattle.search.proofs.bounds.bounds_of.Reads as bounds-of-reads
-use Rattle.search.proofs.branch.branch.Reads as branch-reads
+use Rattle.value.proofs.bounds_of.Reads as bounds-of-reads
+use Rattle.branch.proofs.branch.Reads as branch-reads
 use Rattle.search.proofs.found.least.Reads as least-reads
-use Rattle.search.proofs.so_far.nothing_found.Reads as nothing-found-reads
-use Rattle.search.proofs.so_far.worth.Reads as worth-reads
-use Rattle.settle.proofs.nothing_given.Reads as nothing-given-reads
+use Rattle.so_far.proofs.nothing_found.Reads as nothing-found-reads
+use Rattle.so_far.proofs.worth.Reads as worth-reads
+use Rattle.keeping.proofs.nothing_given.Reads as nothing-given-reads
 
 -- src/found.rt:41:9
 bounds-of-requires : tie.Need-bounds-of-requires

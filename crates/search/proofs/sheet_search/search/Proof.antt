@@ -9,7 +9,7 @@ use Rattle.search.proofs.sheet_search.search.Reads as reads
 use Rattle.search.proofs.sheet_search.search.Lts as lts
 use Rattle.search.proofs.sheet_search.answer_of.Reads as answer-of-reads
 use Rattle.search.proofs.sheet_search.refused.Reads as refused-reads
-use Rattle.sheet.proofs.is_recorded.Reads as is-recorded-reads
+use Rattle.record.proofs.is_recorded.Reads as is-recorded-reads
 
 -- src/sheet_search.rt:89:9
 is-recorded-requires : tie.Need-is-recorded-requires

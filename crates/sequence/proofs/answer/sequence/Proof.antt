@@ -7,7 +7,7 @@ use lib.ListN.{length}
 use Rattle.rules.specs.Results.{sequence-of}
 use Rattle.sequence.specs.laws.Answer.{sequence-not-recorded, sequence-decided-past, sequence-open-within, sequence-found, sequence-missing}
 use Rattle.sheet.specs.IsRecorded.{is-recorded}
-use Rattle.sheet.proofs.CheckTurnLaws.{recorded-limits}
+use Rattle.sheet.proofs.ObeyLaws.{recorded-limits}
 use Rattle.sequence.proofs.answer.sequence.Statement.{statement}
 use Rattle.sequence.proofs.answer.sequence.Tie as tie
 

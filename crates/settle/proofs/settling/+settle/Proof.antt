@@ -1,6 +1,6 @@
 -- Round after round, and each leaves fewer items open.
 use Rattle.rules.specs.Decisions.{open-items}
-use Rattle.settle.specs.Sets.{decisions-of}
+use Rattle.keeping.specs.Sets.{decisions-of}
 use Rattle.settle.specs.laws.Stepping.{settles-then, step-falls}
 use Prim.Native.Nat.{ℕ, _<_}
 use borrow.Fn.Kinds.{In}
@@ -27,7 +27,7 @@ settle-one-round-requires : (t : ℕ) → settle-lts.Need-one-round-requires (
   settle-below t,
   settle.Post,
 ) (settle-at t) settle.Post
-settle-one-round-requires t c κs = c .before .before .before .before .pre .1
+settle-one-round-requires t c κs = (c .before .before .before .before .pre .1 .0, c .before .before .before .before .pre .1 .1)
 
 settle-settle-requires : (t : ℕ) → settle-lts.Need-settle-requires (
   one-round-reads.Asked,

@@ -4,8 +4,8 @@ use Prim.Native.Nat.{_-_, _≤_}
 use mathlib.Core.Path.{ap, _∙_}
 use native.Mathlib.Omega.{arith}
 use Rattle.wire.specs.Places.{number-at}
-use Rattle.wire.specs.laws.Put.{Filled, filled-nothing, filled-next, filled-up}
-use Rattle.wire.specs.laws.Spelled.{entry-of}
+use Rattle.entries.specs.laws.Put.{Filled, filled-nothing, filled-next, filled-up}
+use Rattle.wire.specs.laws.Places.{entry-of}
 use Rattle.wire.proofs.places_out.put_places.Statement.{statement}
 use Rattle.wire.proofs.places_out.put_places.Tie as tie
 

@@ -7,14 +7,12 @@ use native.Mathlib.Omega.{arith}
 use lib.ListN.{length, getD}
 use Rattle.shape.specs.LineText.{line-text}
 use Rattle.sheet.specs.Text.{options-text}
-use Rattle.writer.specs.Write.{put}
-use Rattle.writer.proofs.PutLaws.{put-length, put-none}
-use Rattle.writer.proofs.SectionLaws.{less-none, first-length, put-step, options-first, options-none}
+use Rattle.print.specs.Put.{put}
+use Rattle.print.proofs.PutLaws.{put-length, put-none}
+use Rattle.size.proofs.SectionLaws.{less-none, first-length, options-first, options-none}
+use Rattle.writer.proofs.SectionLaws.{put-step}
 use Rattle.writer.proofs.writing.put_options.Statement.{statement}
 use Rattle.writer.proofs.writing.put_options.Tie as tie
-use Rattle.writer.proofs.writing.put_options.Reads as reads
-use Rattle.writer.proofs.writing.put_options.Lts as lts
-use Rattle.writer.proofs.print.put_two.Reads as put-two-reads
 
 abbrev Inv-loop : tie.InvT-loop
 Inv-loop out₀ at numbers weights n i₀ p₀ out i p = (i ≤ n) × ((length out ≡ length out₀) × ((put at (options-text n 0 numbers weights) out₀ ≡ put p (options-text (n - i) i numbers weights) out) × (at + length (options-text n 0 numbers weights) ≡ p + length (options-text (n - i) i numbers weights))))

@@ -5,15 +5,9 @@ use native.Mathlib.Omega.{arith}
 use lib.ListN.{length}
 use Rattle.sheet.proofs.PartLaws.{text-length}
 use Rattle.writer.proofs.SectionLaws.{text-put}
-use Rattle.writer.proofs.PutLaws.{put-length}
+use Rattle.print.proofs.PutLaws.{put-length}
 use Rattle.writer.proofs.writing.put_text.Statement.{statement}
 use Rattle.writer.proofs.writing.put_text.Tie as tie
-use Rattle.writer.proofs.writing.put_text.Reads as reads
-use Rattle.writer.proofs.writing.put_text.Lts as lts
-use Rattle.writer.proofs.print.put_three.Reads as put-three-reads
-use Rattle.writer.proofs.writing.put_catalogue.Reads as put-catalogue-reads
-use Rattle.writer.proofs.writing.put_options.Reads as put-options-reads
-use Rattle.writer.proofs.writing.put_orderings.Reads as put-orderings-reads
 
 -- src/write.rt:179:30
 slice-aggregate-put-catalogue : tie.Need-slice-aggregate-put-catalogue
@@ -82,18 +76,6 @@ add-u c = omega (arith, c .before .before .before .before .before .before .befor
 add-t : tie.Need-add-t
 add-t c = omega (arith, c .before .before .before .before .before .before .before .before .before .before .before .before .before .before .before .before .before .before .before .before .before .before .before .before .before .before .before .before .before .before .before .before .pre)
 
--- src/write.rt:190:27
-cast-put-three : tie.Need-cast-put-three
-cast-put-three c = omega (arith, c .before .before .before .before .before .before .before .before .before .before .before .before .before .before .before .before .before .before .before .before .before .before .before .before .before .before .before .before .before .before .before .before .before .pre)
-
--- src/write.rt:190:37
-cast-put-three-2 : tie.Need-cast-put-three-2
-cast-put-three-2 c = omega (arith, c .before .before .before .before .before .before .before .before .before .before .before .before .before .before .before .before .before .before .before .before .before .before .before .before .before .before .before .before .before .before .before .before .before .pre)
-
--- src/write.rt:190:47
-cast-put-three-3 : tie.Need-cast-put-three-3
-cast-put-three-3 c = omega (arith, c .before .before .before .before .before .before .before .before .before .before .before .before .before .before .before .before .before .before .before .before .before .before .before .before .before .before .before .before .before .before .before .before .before .pre)
-
 -- src/write.rt:190:5
 put-three-requires : tie.Need-put-three-requires
 put-three-requires c κs = let k = ap length (c .before .before .before .before .before .before .before .before .before .before .before .before .before .before .before .before .before .before .before .before .before .before .before .before .put-catalogue .ensures .0) ∙ put-length _ _ _ in
@@ -130,9 +112,6 @@ put-text-spec =
     add-f
     add-u
     add-t
-    cast-put-three
-    cast-put-three-2
-    cast-put-three-3
     put-three-requires
     same-length
     returns)

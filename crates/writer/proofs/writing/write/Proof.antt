@@ -2,16 +2,10 @@
 use borrow.Author.Needs.{needs}
 use mathlib.Core.Path.{sym, _∙_}
 use borrow.Author.Tests.{not-true, not-false}
-use Rattle.sheet.proofs.CheckTurnLaws.{recorded-limits}
+use Rattle.sheet.proofs.ObeyLaws.{recorded-limits}
 use Rattle.writer.proofs.WriteLaws.{wrote-not-recorded, wrote-too-short, wrote-text}
 use Rattle.writer.proofs.writing.write.Statement.{statement}
 use Rattle.writer.proofs.writing.write.Tie as tie
-use Rattle.writer.proofs.writing.write.Reads as reads
-use Rattle.writer.proofs.writing.write.Lts as lts
-use Rattle.sheet.proofs.is_recorded.Reads as is-recorded-reads
-use Rattle.writer.proofs.writing.not_written.Reads as not-written-reads
-use Rattle.writer.proofs.writing.put_text.Reads as put-text-reads
-use Rattle.writer.proofs.writing.text_size.Reads as text-size-reads
 
 -- src/write.rt:206:9
 is-recorded-requires : tie.Need-is-recorded-requires

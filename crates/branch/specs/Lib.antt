@@ -1,0 +1,4 @@
+pub mod First
+pub mod Shown
+pub mod Branch
+pub mod laws

@@ -1,0 +1,4 @@
+pub mod Arrays
+pub mod Sets
+pub mod Keeping
+pub mod laws

@@ -1,0 +1,2 @@
+pub mod BreaksLaws
+pub mod LineLaws

@@ -1,0 +1,4 @@
+pub mod Breaks
+pub mod Lines
+pub mod Result
+pub mod Stored

@@ -1,0 +1,4 @@
+pub mod Edges
+pub mod Next
+pub mod Slots
+pub mod Placed

@@ -5,15 +5,12 @@ use Rattle.rows.proofs.get.Tie as tie
 use Rattle.rows.proofs.get.Reads as reads
 use Rattle.rows.proofs.get.Lts as lts
 
--- src/lib.rt:11:13
 cast-result : tie.Need-cast-result
 cast-result c = search needs
 
--- src/lib.rt:11:6
 shr-result : tie.Need-shr-result
 shr-result c = search needs
 
--- src/lib.rt:7:1
 returns : tie.Need-returns
 unfolding has
 returns c = search needs

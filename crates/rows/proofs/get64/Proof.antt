@@ -5,11 +5,9 @@ use Rattle.rows.proofs.get64.Tie as tie
 use Rattle.rows.proofs.get64.Reads as reads
 use Rattle.rows.proofs.get64.Lts as lts
 
--- src/lib.rt:64:6
 shr-result : tie.Need-shr-result
 shr-result c = search needs
 
--- src/lib.rt:60:1
 returns : tie.Need-returns
 unfolding has
 returns c = search needs

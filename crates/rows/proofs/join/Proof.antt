@@ -5,7 +5,6 @@ use Rattle.rows.proofs.join.Tie as tie
 use Rattle.rows.proofs.join.Reads as reads
 use Rattle.rows.proofs.join.Lts as lts
 
--- src/lib.rt:35:1
 returns : tie.Need-returns
 unfolding joined
 returns c = search needs

@@ -6,16 +6,13 @@ use Rattle.rows.proofs.join_if.Reads as reads
 use Rattle.rows.proofs.join_if.Lts as lts
 use Rattle.rows.proofs.join.Reads as join-reads
 
--- src/lib.rt:46:9
 join-requires : tie.Need-join-requires
 join-requires c κs = search needs
 
--- src/lib.rt:42:1
 returns : tie.Need-returns
 unfolding joined-if
 returns c = rw (c .before .if1 .taken) (c .join .ensures)
 
--- src/lib.rt:42:1
 returns-2 : tie.Need-returns-2
 unfolding joined-if
 returns-2 c = rw (c .if1 .left)

@@ -5,7 +5,6 @@ use Rattle.rows.proofs.meet.Tie as tie
 use Rattle.rows.proofs.meet.Reads as reads
 use Rattle.rows.proofs.meet.Lts as lts
 
--- src/lib.rt:53:1
 returns : tie.Need-returns
 unfolding met
 returns c = search needs

@@ -8,11 +8,9 @@ use Rattle.rows.proofs.put64.Tie as tie
 use Rattle.rows.proofs.put64.Reads as reads
 use Rattle.rows.proofs.put64.Lts as lts
 
--- src/lib.rt:71:12
 shl-result : tie.Need-shl-result
 shl-result c = search needs
 
--- src/lib.rt:67:1
 returns : tie.Need-returns
 unfolding with
 returns c = rw (shl-exact {a = 1} 1 (c .args .i) 64 (omega arith) (omega arith), one-mul)

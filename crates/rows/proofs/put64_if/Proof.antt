@@ -6,16 +6,13 @@ use Rattle.rows.proofs.put64_if.Reads as reads
 use Rattle.rows.proofs.put64_if.Lts as lts
 use Rattle.rows.proofs.put64.Reads as put64-reads
 
--- src/lib.rt:79:9
 put64-requires : tie.Need-put64-requires
 put64-requires c κs = search needs
 
--- src/lib.rt:74:1
 returns : tie.Need-returns
 unfolding with-if
 returns c = rw (c .before .if1 .taken) (c .put64 .ensures)
 
--- src/lib.rt:74:1
 returns-2 : tie.Need-returns-2
 unfolding with-if
 returns-2 c = rw (c .if1 .left)

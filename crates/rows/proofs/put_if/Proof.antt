@@ -6,16 +6,13 @@ use Rattle.rows.proofs.put_if.Reads as reads
 use Rattle.rows.proofs.put_if.Lts as lts
 use Rattle.rows.proofs.put.Reads as put-reads
 
--- src/lib.rt:28:9
 put-requires : tie.Need-put-requires
 put-requires c κs = search needs
 
--- src/lib.rt:23:1
 returns : tie.Need-returns
 unfolding with-if
 returns c = rw (c .before .if1 .taken) (c .put .ensures)
 
--- src/lib.rt:23:1
 returns-2 : tie.Need-returns-2
 unfolding with-if
 returns-2 c = rw (c .if1 .left)

@@ -30,7 +30,6 @@ branch-at t = and 1 branch-kinds.ps (is 1 branch-kinds.ps μ-branch t) branch.Pr
 abbrev branch-below : ℕ → In 1 branch-kinds.ps
 branch-below t = and 1 branch-kinds.ps (falls 1 branch-kinds.ps _<_ μ-branch t) branch.Pre
 
--- src/branching.rt:34:9
 branch-wanted-requires : (t : ℕ) → branch-lts.Need-wanted-requires (
   wanted-reads.Asked,
   wanted-reads.Learnt,
@@ -49,7 +48,6 @@ branch-wanted-requires : (t : ℕ) → branch-lts.Need-wanted-requires (
 ) (branch-at t) branch.Post
 branch-wanted-requires t c κs = (c .before .before .before .before .pre .1 .2, c .before .before .before .before .pre .1 .3)
 
--- src/branching.rt:36:9
 branch-returns : (t : ℕ) → branch-lts.Need-returns (
   wanted-reads.Asked,
   wanted-reads.Learnt,
@@ -68,7 +66,6 @@ branch-returns : (t : ℕ) → branch-lts.Need-returns (
 ) (branch-at t) branch.Post
 branch-returns t c = step-enough _ _ _ _ _ _ _ _ _ _ _ (c .before .before .before .before .before .before .pre .1 .2) _ (c .before .wanted .ensures) (c .if1 .taken)
 
--- src/branching.rt:38:9
 branch-settle-requires : (t : ℕ) → branch-lts.Need-settle-requires (
   wanted-reads.Asked,
   wanted-reads.Learnt,
@@ -87,7 +84,6 @@ branch-settle-requires : (t : ℕ) → branch-lts.Need-settle-requires (
 ) (branch-at t) branch.Post
 branch-settle-requires t c κs = (c .before .before .before .before .before .before .pre .1 .0, c .before .before .before .before .before .before .pre .1 .1, (let w = wanted-below (c .before .before .before .before .before .before .args .a) (c .before .before .before .before .before .before .args .tolerance) in omega (arith, w, c .before .wanted .ensures, c .before .before .before .before .before .before .pre .1 .2, c .before .before .before .before .before .before .pre .1 .3)))
 
--- src/branching.rt:51:9
 branch-returns-2 : (t : ℕ) → branch-lts.Need-returns-2 (
   wanted-reads.Asked,
   wanted-reads.Learnt,
@@ -106,7 +102,6 @@ branch-returns-2 : (t : ℕ) → branch-lts.Need-returns-2 (
 ) (branch-at t) branch.Post
 branch-returns-2 t c = step-over _ _ _ _ _ _ _ _ _ _ _ (c .before .before .before .before .before .before .before .before .pre .1 .2) _ (c .before .before .before .wanted .ensures) _ (c .before .settle .ensures) (c .if2 .taken)
 
--- src/branching.rt:54:9
 branch-first-item-requires : (t : ℕ) → branch-lts.Need-first-item-requires (
   wanted-reads.Asked,
   wanted-reads.Learnt,
@@ -125,7 +120,6 @@ branch-first-item-requires : (t : ℕ) → branch-lts.Need-first-item-requires (
 ) (branch-at t) branch.Post
 branch-first-item-requires t c κs = (c .before .before .before .before .before .before .before .before .before .pre .1 .0 .ends .few-options, c .before .before .before .before .before .before .before .before .before .pre .1 .0 .ends .few-orderings)
 
--- src/branching.rt:56:9
 branch-take-requires : (t : ℕ) → branch-lts.Need-take-requires (
   wanted-reads.Asked,
   wanted-reads.Learnt,
@@ -144,7 +138,6 @@ branch-take-requires : (t : ℕ) → branch-lts.Need-take-requires (
 ) (branch-at t) branch.Post
 branch-take-requires t c κs = c .before .before .before .before .settle .ensures .left (c .before .before .before .if2 .left) .small
 
--- src/branching.rt:56:9
 branch-returns-3 : (t : ℕ) → branch-lts.Need-returns-3 (
   wanted-reads.Asked,
   wanted-reads.Learnt,
@@ -163,7 +156,6 @@ branch-returns-3 : (t : ℕ) → branch-lts.Need-returns-3 (
 ) (branch-at t) branch.Post
 branch-returns-3 t c = step-leaf _ _ _ _ _ _ _ _ _ _ _ (c .before .before .before .before .before .before .before .before .before .before .before .before .pre .1 .2) _ (c .before .before .before .before .before .before .before .wanted .ensures) _ (c .before .before .before .before .before .settle .ensures) (c .before .before .before .before .if2 .left) _ (c .before .before .first-item .ensures) (c .before .if3 .taken) _ (c .take .ensures)
 
--- src/branching.rt:58:9
 branch-keep-item-requires : (t : ℕ) → branch-lts.Need-keep-item-requires (
   wanted-reads.Asked,
   wanted-reads.Learnt,
@@ -182,7 +174,6 @@ branch-keep-item-requires : (t : ℕ) → branch-lts.Need-keep-item-requires (
 ) (branch-at t) branch.Post
 branch-keep-item-requires t c κs = search needs
 
--- src/branching.rt:59:9
 branch-branch-requires : (t : ℕ) → branch-lts.Need-branch-requires (
   wanted-reads.Asked,
   wanted-reads.Learnt,
@@ -201,7 +192,6 @@ branch-branch-requires : (t : ℕ) → branch-lts.Need-branch-requires (
 ) (branch-at t) branch.Post
 branch-branch-requires t c κs = (kept-falls _ (c .before .before .before .before .before .settle .ensures .left (c .before .before .before .before .if2 .left)) _ (c .before .before .first-item .ensures .picked) (c .before .if3 .left) _ (c .keep-item .ensures) _ (c .before .before .before .before .before .before .before .before .before .before .before .before .pre .0), (c .before .before .before .before .before .before .before .before .before .before .before .before .pre .1 .0, kept-apart _ (c .before .before .before .before .before .settle .ensures .left (c .before .before .before .before .if2 .left)) _ (c .before .before .first-item .ensures .picked) (c .before .if3 .left) _ (c .keep-item .ensures), c .before .before .before .before .before .before .before .before .before .before .before .before .pre .1 .2, c .before .before .before .before .before .before .before .before .before .before .before .before .pre .1 .3))
 
--- src/branching.rt:72:9
 branch-drop-item-requires : (t : ℕ) → branch-lts.Need-drop-item-requires (
   wanted-reads.Asked,
   wanted-reads.Learnt,
@@ -220,7 +210,6 @@ branch-drop-item-requires : (t : ℕ) → branch-lts.Need-drop-item-requires (
 ) (branch-at t) branch.Post
 branch-drop-item-requires t c κs = search needs
 
--- src/branching.rt:73:5
 branch-branch-requires-2 : (t : ℕ) → branch-lts.Need-branch-requires-2 (
   wanted-reads.Asked,
   wanted-reads.Learnt,
@@ -239,7 +228,6 @@ branch-branch-requires-2 : (t : ℕ) → branch-lts.Need-branch-requires-2 (
 ) (branch-at t) branch.Post
 branch-branch-requires-2 t c κs = (dropped-falls _ (c .before .before .before .before .before .before .before .settle .ensures .left (c .before .before .before .before .before .before .if2 .left)) _ (c .before .before .before .before .first-item .ensures .picked) (c .before .before .before .if3 .left) _ (c .drop-item .ensures) _ (c .before .before .before .before .before .before .before .before .before .before .before .before .before .before .pre .0), (c .before .before .before .before .before .before .before .before .before .before .before .before .before .before .pre .1 .0, dropped-apart _ (c .before .before .before .before .before .before .before .settle .ensures .left (c .before .before .before .before .before .before .if2 .left)) _ (c .before .before .before .before .first-item .ensures .picked) (c .before .before .before .if3 .left) _ (c .drop-item .ensures), c .before .branch .ensures .goal, c .before .before .before .before .before .before .before .before .before .before .before .before .before .before .pre .1 .3))
 
--- src/branching.rt:18:1
 branch-returns-4 : (t : ℕ) → branch-lts.Need-returns-4 (
   wanted-reads.Asked,
   wanted-reads.Learnt,

@@ -7,27 +7,21 @@ use Rattle.branch.proofs.first.first_item.Reads as reads
 use Rattle.branch.proofs.first.first_item.Lts as lts
 use Rattle.branch.proofs.first.first_of.Reads as first-of-reads
 
--- src/first.rt:25:9
 first-of-requires : tie.Need-first-of-requires
 first-of-requires c κs = search needs
 
--- src/first.rt:27:9
 returns : tie.Need-returns
 returns c = first-is-option _ _ _ _ _ (c .before .before .pre .0) (c .before .first-of .ensures) (c .if1 .taken)
 
--- src/first.rt:29:9
 first-of-requires-2 : tie.Need-first-of-requires-2
 first-of-requires-2 c κs = search needs
 
--- src/first.rt:31:16
 add-result : tie.Need-add-result
 add-result c = search needs
 
--- src/first.rt:31:9
 returns-2 : tie.Need-returns-2
 returns-2 c = first-is-ordering _ _ _ _ _ _ (c .before .before .before .first-of .ensures) (c .before .before .if1 .left) (c .before .first-of2 .ensures) (c .if2 .taken) (c .before .before .before .before .pre .1)
 
--- src/first.rt:21:1
 returns-3 : tie.Need-returns-3
 returns-3 c = nothing-is-open _ _ _ _ _ _ (c .before .before .before .first-of .ensures) (c .before .before .if1 .left) (c .before .first-of2 .ensures) (c .if2 .left)
 

@@ -18,31 +18,24 @@ Inv-loop set n i₀ i = (i ≤ n) × ((j : ℕ) → j < i → has set j ≡ fals
 abbrev μ-loop : tie.MeasureT-loop
 μ-loop set n i₀ i = n - i
 
--- src/first.rt:11:5
 loop-holds : tie.Need-loop-holds Inv-loop μ-loop
 loop-holds c = (omega arith, λ j l. absurd (omega arith))
 
--- src/first.rt:12:12
 get64-requires : tie.Need-get64-requires Inv-loop μ-loop
 get64-requires c κs = search needs
 
--- src/first.rt:13:13
 returns : tie.Need-returns Inv-loop μ-loop
 returns c = record { below = omega arith; none-before = c .before .before .before .loop .inv .1; here = λ l. sym (c .before .get64 .ensures) ∙ c .if1 .taken }
 
--- src/first.rt:15:9
 add-i : tie.Need-add-i Inv-loop μ-loop
 add-i c = search needs
 
--- src/first.rt:11:5
 loop-less : tie.Need-loop-less Inv-loop μ-loop
 loop-less c = search needs
 
--- src/first.rt:11:5
 loop-again : tie.Need-loop-again Inv-loop μ-loop
 loop-again c = (omega arith, one-more _ _ (c .before .before .before .loop .inv .1) (sym (c .before .get64 .ensures) ∙ c .if1 .left))
 
--- src/first.rt:6:1
 returns-2 : tie.Need-returns-2 Inv-loop μ-loop
 returns-2 c = record { below = omega arith; none-before = λ j l. c .before .loop .inv .1 j (omega arith); here = λ l. absurd (omega arith) }
 

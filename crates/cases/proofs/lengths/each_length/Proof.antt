@@ -14,27 +14,21 @@ Inv-loop s n₀ n = n ≤ 63
 abbrev μ-loop : tie.MeasureT-loop
 μ-loop s n₀ n = 63 - n
 
--- src/lengths.rt:36:5
 loop-holds : tie.Need-loop-holds Inv-loop μ-loop
 loop-holds c = omega arith
 
--- src/lengths.rt:37:9
 one-length-requires : tie.Need-one-length-requires Inv-loop μ-loop
 one-length-requires c κs = search needs
 
--- src/lengths.rt:38:9
 add-n : tie.Need-add-n Inv-loop μ-loop
 add-n c = omega arith
 
--- src/lengths.rt:36:5
 loop-less : tie.Need-loop-less Inv-loop μ-loop
 loop-less c = omega arith
 
--- src/lengths.rt:36:5
 loop-again : tie.Need-loop-again Inv-loop μ-loop
 loop-again c = omega arith
 
--- src/lengths.rt:34:1
 returns : tie.Need-returns Inv-loop μ-loop
 returns c = omega arith
 

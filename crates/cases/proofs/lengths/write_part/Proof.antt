@@ -8,35 +8,27 @@ use Rattle.cases.proofs.lengths.write_part.Reads as reads
 use Rattle.cases.proofs.lengths.write_part.Lts as lts
 use Rattle.writer.proofs.write.Reads as write-reads
 
--- src/lengths.rt:29:33
 slice-relend-prefix-write : tie.Need-slice-relend-prefix-write
 slice-relend-prefix-write c = search needs
 
--- src/lengths.rt:29:33
 slice-aggregate-write : tie.Need-slice-aggregate-write
 slice-aggregate-write c = sym (length-take-le (c .before .before .before .args .n) (c .before .before .before .args .out .now) (c .before .if1 .taken))
 
--- src/lengths.rt:29:9
 write-requires : tie.Need-write-requires
 write-requires c κs = search needs
 
--- src/lengths.rt:29:9
 same-length : tie.Need-same-length
 same-length c = search needs
 
--- src/lengths.rt:29:9
 returns : tie.Need-returns
 returns c = search needs
 
--- src/lengths.rt:31:5
 write-requires-2 : tie.Need-write-requires-2
 write-requires-2 c κs = search needs
 
--- src/lengths.rt:27:1
 same-length-2 : tie.Need-same-length-2
 same-length-2 c = search needs
 
--- src/lengths.rt:27:1
 returns-2 : tie.Need-returns-2
 returns-2 c = search needs
 

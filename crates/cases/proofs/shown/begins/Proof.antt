@@ -8,19 +8,15 @@ use Rattle.cases.proofs.shown.begins.Reads as reads
 use Rattle.cases.proofs.shown.begins.Lts as lts
 use Rattle.check.proofs.same.Reads as same-reads
 
--- src/shown.rt:60:28
 slice-aggregate-same : tie.Need-slice-aggregate-same
 slice-aggregate-same c = sym (length-take-le (c .before .before .before .before .args .n) (c .before .before .before .before .args .out .now) (c .before .if1 .taken))
 
--- src/shown.rt:60:9
 same-requires : tie.Need-same-requires
 same-requires c κs = search needs
 
--- src/shown.rt:60:9
 returns : tie.Need-returns
 returns c = search needs
 
--- src/shown.rt:58:1
 returns-2 : tie.Need-returns-2
 returns-2 c = search needs
 

@@ -13,31 +13,24 @@ Inv-loop out n i₀ i = n ≤ i
 abbrev μ-loop : tie.MeasureT-loop
 μ-loop out n i₀ i = length out - i
 
--- src/shown.rt:68:5
 loop-holds : tie.Need-loop-holds Inv-loop μ-loop
 loop-holds c = omega arith
 
--- src/shown.rt:69:12
 shared-slice-read-if1 : tie.Need-shared-slice-read-if1 Inv-loop μ-loop
 shared-slice-read-if1 c = omega arith
 
--- src/shown.rt:70:13
 returns : tie.Need-returns Inv-loop μ-loop
 returns c = omega arith
 
--- src/shown.rt:72:9
 add-i : tie.Need-add-i Inv-loop μ-loop
 add-i c = omega arith
 
--- src/shown.rt:68:5
 loop-less : tie.Need-loop-less Inv-loop μ-loop
 loop-less c = omega arith
 
--- src/shown.rt:68:5
 loop-again : tie.Need-loop-again Inv-loop μ-loop
 loop-again c = omega arith
 
--- src/shown.rt:66:1
 returns-2 : tie.Need-returns-2 Inv-loop μ-loop
 returns-2 c = omega arith
 

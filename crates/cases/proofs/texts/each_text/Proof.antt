@@ -16,43 +16,33 @@ Inv-loop all at₀ at = at ≤ length all + 1
 abbrev μ-loop : tie.MeasureT-loop
 μ-loop all at₀ at = length all + 1 - at
 
--- src/texts.rt:54:5
 loop-holds : tie.Need-loop-holds Inv-loop μ-loop
 loop-holds c = omega arith
 
--- src/texts.rt:55:13
 text-end-requires : tie.Need-text-end-requires Inv-loop μ-loop
 text-end-requires c κs = omega arith
 
--- src/texts.rt:56:18
 sub-one-text : tie.Need-sub-one-text Inv-loop μ-loop
 sub-one-text c = omega arith
 
--- src/texts.rt:56:18
 part-one-text-start : tie.Need-part-one-text-start Inv-loop μ-loop
 part-one-text-start c = omega arith
 
--- src/texts.rt:56:18
 part-one-text-end : tie.Need-part-one-text-end Inv-loop μ-loop
 part-one-text-end c = omega arith
 
--- src/texts.rt:56:9
 one-text-requires : tie.Need-one-text-requires Inv-loop μ-loop
 one-text-requires c κs = search needs
 
--- src/texts.rt:57:14
 add-at : tie.Need-add-at Inv-loop μ-loop
 add-at c = omega arith
 
--- src/texts.rt:54:5
 loop-less : tie.Need-loop-less Inv-loop μ-loop
 loop-less c = omega arith
 
--- src/texts.rt:54:5
 loop-again : tie.Need-loop-again Inv-loop μ-loop
 loop-again c = omega arith
 
--- src/texts.rt:52:1
 returns : tie.Need-returns Inv-loop μ-loop
 returns c = omega arith
 

@@ -13,31 +13,24 @@ Inv-loop all at i₀ i = (at ≤ i) × (i ≤ length all)
 abbrev μ-loop : tie.MeasureT-loop
 μ-loop all at i₀ i = length all - i
 
--- src/texts.rt:18:5
 loop-holds : tie.Need-loop-holds Inv-loop μ-loop
 loop-holds c = (omega arith, omega arith)
 
--- src/texts.rt:19:12
 shared-slice-read-if1 : tie.Need-shared-slice-read-if1 Inv-loop μ-loop
 shared-slice-read-if1 c = omega arith
 
--- src/texts.rt:20:13
 returns : tie.Need-returns Inv-loop μ-loop
 returns c = (omega arith, omega arith)
 
--- src/texts.rt:22:9
 add-i : tie.Need-add-i Inv-loop μ-loop
 add-i c = omega arith
 
--- src/texts.rt:18:5
 loop-less : tie.Need-loop-less Inv-loop μ-loop
 loop-less c = omega arith
 
--- src/texts.rt:18:5
 loop-again : tie.Need-loop-again Inv-loop μ-loop
 loop-again c = (omega arith, omega arith)
 
--- src/texts.rt:13:1
 returns-2 : tie.Need-returns-2 Inv-loop μ-loop
 returns-2 c = (omega arith, omega arith)
 

@@ -17,35 +17,27 @@ Inv-loop entries x i₀ i = (i ≤ length entries) × (is-in x entries ≡ is-in
 abbrev μ-loop : tie.MeasureT-loop
 μ-loop entries x i₀ i = length entries - i
 
--- src/judge.rt:19:5
 loop-holds : tie.Need-loop-holds Inv-loop μ-loop
 loop-holds c = (omega arith, refl)
 
--- src/judge.rt:20:17
 shared-slice-read-y : tie.Need-shared-slice-read-y Inv-loop μ-loop
 shared-slice-read-y c = omega arith
 
--- src/judge.rt:20:17
 cast-y : tie.Need-cast-y Inv-loop μ-loop
 cast-y c = omega (arith, c .shared-slice-known .given (c .before .before .loop .i))
 
--- src/judge.rt:22:13
 returns : tie.Need-returns Inv-loop μ-loop
 returns c = sym (c .before .before .before .loop .inv .1 ∙ in-step (c .before .before .before .before .args .x) (c .before .before .before .loop .i) (c .before .before .before .before .args .entries .now) (c .before .before .loop-test .taken) ∙ rw (eq-eqb _ _ (c .if1 .taken)))
 
--- src/judge.rt:24:9
 add-i : tie.Need-add-i Inv-loop μ-loop
 add-i c = omega arith
 
--- src/judge.rt:19:5
 loop-less : tie.Need-loop-less Inv-loop μ-loop
 loop-less c = omega arith
 
--- src/judge.rt:19:5
 loop-again : tie.Need-loop-again Inv-loop μ-loop
 loop-again c = (omega arith, c .before .before .before .loop .inv .1 ∙ in-step (c .before .before .before .before .args .x) (c .before .before .before .loop .i) (c .before .before .before .before .args .entries .now) (c .before .before .loop-test .taken) ∙ rw (ne-eqb _ _ (c .if1 .left)))
 
--- src/judge.rt:15:1
 returns-2 : tie.Need-returns-2 Inv-loop μ-loop
 returns-2 c = sym (c .before .loop .inv .1 ∙ in-end (c .before .before .args .x) (c .before .loop .i) (c .before .before .args .entries .now) (c .loop-test .left))
 

@@ -18,47 +18,36 @@ Inv-loop firsts seconds x y i₀ i = (i ≤ length firsts) × (is-pair x y first
 abbrev μ-loop : tie.MeasureT-loop
 μ-loop firsts seconds x y i₀ i = length firsts - i
 
--- src/judge.rt:34:5
 loop-holds : tie.Need-loop-holds Inv-loop μ-loop
 loop-holds c = (omega arith, refl)
 
--- src/judge.rt:36:13
 returns : tie.Need-returns Inv-loop μ-loop
 returns c = sym (c .before .before .loop .inv .1 ∙ pair-short (c .before .before .before .args .x) (c .before .before .before .args .y) (c .before .before .loop .i) (c .before .before .before .args .firsts .now) (c .before .before .before .args .seconds .now) (c .before .loop-test .taken) (c .if1 .taken))
 
--- src/judge.rt:38:17
 shared-slice-read-a : tie.Need-shared-slice-read-a Inv-loop μ-loop
 shared-slice-read-a c = omega arith
 
--- src/judge.rt:38:17
 cast-a : tie.Need-cast-a Inv-loop μ-loop
 cast-a c = omega (arith, c .shared-slice-known .given (c .before .before .before .loop .i))
 
--- src/judge.rt:39:17
 shared-slice-read-b : tie.Need-shared-slice-read-b Inv-loop μ-loop
 shared-slice-read-b c = omega arith
 
--- src/judge.rt:39:17
 cast-b : tie.Need-cast-b Inv-loop μ-loop
 cast-b c = omega (arith, c .shared-slice-known2 .given (c .before .before .before .before .loop .i))
 
--- src/judge.rt:42:17
 returns-2 : tie.Need-returns-2 Inv-loop μ-loop
 returns-2 c = sym (c .before .before .before .before .before .before .loop .inv .1 ∙ pair-step (c .before .before .before .before .before .before .before .args .x) (c .before .before .before .before .before .before .before .args .y) (c .before .before .before .before .before .before .loop .i) (c .before .before .before .before .before .before .before .args .firsts .now) (c .before .before .before .before .before .before .before .args .seconds .now) (c .before .before .before .before .before .loop-test .taken) (c .before .before .before .before .if1 .left) ∙ rw (eq-eqb _ _ (c .before .if2 .taken), eq-eqb _ _ (c .if3 .taken)))
 
--- src/judge.rt:45:9
 add-i : tie.Need-add-i Inv-loop μ-loop
 add-i c = omega arith
 
--- src/judge.rt:34:5
 loop-less : tie.Need-loop-less Inv-loop μ-loop
 loop-less c = omega arith
 
--- src/judge.rt:34:5
 loop-again : tie.Need-loop-again Inv-loop μ-loop
 loop-again c = (omega arith, c .before .before .before .before .before .loop .inv .1 ∙ pair-step (c .before .before .before .before .before .before .args .x) (c .before .before .before .before .before .before .args .y) (c .before .before .before .before .before .loop .i) (c .before .before .before .before .before .before .args .firsts .now) (c .before .before .before .before .before .before .args .seconds .now) (c .before .before .before .before .loop-test .taken) (c .before .before .before .if1 .left) ∙ ⊎-elim (λ w. rw (eq-eqb _ _ (w .0 .taken), ne-eqb _ _ (w .1 .left))) (λ w. rw (ne-eqb _ _ (w .left))) (c .if2 .came))
 
--- src/judge.rt:30:1
 returns-3 : tie.Need-returns-3 Inv-loop μ-loop
 returns-3 c = sym (c .before .loop .inv .1 ∙ pair-end (c .before .before .args .x) (c .before .before .args .y) (c .before .loop .i) (c .before .before .args .firsts .now) (c .before .before .args .seconds .now) (c .loop-test .left))
 

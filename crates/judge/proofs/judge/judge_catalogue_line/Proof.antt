@@ -5,27 +5,21 @@ use Rattle.judge.proofs.judge.judge_catalogue_line.Tie as tie
 use Rattle.judge.proofs.judge.judge_catalogue_line.Reads as reads
 use Rattle.judge.proofs.judge.judge_catalogue_line.Lts as lts
 
--- src/judge.rt:55:9
 returns : tie.Need-returns
 returns c = simp (eq-eqb _ _ (c .if1 .taken))
 
--- src/judge.rt:58:9
 returns-2 : tie.Need-returns-2
 returns-2 c = simp (ne-eqb _ _ (c .before .before .if1 .left), lt-ltb _ _ (c .if2 .taken))
 
--- src/judge.rt:61:9
 returns-3 : tie.Need-returns-3
 returns-3 c = simp (ne-eqb _ _ (c .before .before .before .before .if1 .left), le-ltb _ _ (c .before .before .if2 .left), eq-eqb _ _ (c .if3 .taken))
 
--- src/judge.rt:64:9
 returns-4 : tie.Need-returns-4
 returns-4 c = simp (ne-eqb _ _ (c .before .before .before .before .before .before .if1 .left), le-ltb _ _ (c .before .before .before .before .if2 .left), ne-eqb _ _ (c .before .before .if3 .left), lt-ltb _ _ (c .if4 .taken))
 
--- src/judge.rt:67:9
 returns-5 : tie.Need-returns-5
 returns-5 c = simp (ne-eqb _ _ (c .before .before .before .before .before .before .before .before .if1 .left), le-ltb _ _ (c .before .before .before .before .before .before .if2 .left), ne-eqb _ _ (c .before .before .before .before .if3 .left), le-ltb _ _ (c .before .before .if4 .left), eq-eqb _ _ (c .if5 .taken))
 
--- src/judge.rt:51:1
 returns-6 : tie.Need-returns-6
 returns-6 c = simp (ne-eqb _ _ (c .before .before .before .before .before .before .before .before .if1 .left), le-ltb _ _ (c .before .before .before .before .before .before .if2 .left), ne-eqb _ _ (c .before .before .before .before .if3 .left), le-ltb _ _ (c .before .before .if4 .left), ne-eqb _ _ (c .if5 .left))
 

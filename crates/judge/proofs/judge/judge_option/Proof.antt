@@ -8,27 +8,21 @@ use Rattle.judge.proofs.judge.judge_option.Reads as reads
 use Rattle.judge.proofs.judge.judge_option.Lts as lts
 use Rattle.judge.proofs.judge.is_in.Reads as is-in-reads
 
--- src/judge.rt:77:9
 returns : tie.Need-returns
 returns c = simp (eq-eqb _ _ (c .if1 .taken))
 
--- src/judge.rt:80:9
 returns-2 : tie.Need-returns-2
 returns-2 c = simp (ne-eqb _ _ (c .before .before .if1 .left), lt-ltb _ _ (c .if2 .taken))
 
--- src/judge.rt:83:9
 returns-3 : tie.Need-returns-3
 returns-3 c = simp (ne-eqb _ _ (c .before .before .before .before .if1 .left), le-ltb _ _ (c .before .before .if2 .left), lt-ltb _ _ (c .if3 .taken))
 
--- src/judge.rt:85:8
 is-in-requires : tie.Need-is-in-requires
 is-in-requires c κs = search needs
 
--- src/judge.rt:86:9
 returns-4 : tie.Need-returns-4
 returns-4 c = simp (ne-eqb _ _ (c .before .before .before .before .before .before .if1 .left), le-ltb _ _ (c .before .before .before .before .if2 .left), le-ltb _ _ (c .before .before .if3 .left), sym (c .before .is-in .ensures) ∙ c .if4 .taken)
 
--- src/judge.rt:73:1
 returns-5 : tie.Need-returns-5
 returns-5 c = simp (ne-eqb _ _ (c .before .before .before .before .before .before .if1 .left), le-ltb _ _ (c .before .before .before .before .if2 .left), le-ltb _ _ (c .before .before .if3 .left), sym (c .before .is-in .ensures) ∙ c .if4 .left)
 

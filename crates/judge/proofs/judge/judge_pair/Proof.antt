@@ -8,31 +8,24 @@ use Rattle.judge.proofs.judge.judge_pair.Lts as lts
 use Rattle.judge.proofs.judge.is_in.Reads as is-in-reads
 use Rattle.judge.proofs.judge.is_pair.Reads as is-pair-reads
 
--- src/judge.rt:120:8
 is-in-requires : tie.Need-is-in-requires
 is-in-requires c κs = search needs
 
--- src/judge.rt:121:12
 is-in-requires-2 : tie.Need-is-in-requires-2
 is-in-requires-2 c κs = search needs
 
--- src/judge.rt:122:16
 is-pair-requires : tie.Need-is-pair-requires
 is-pair-requires c κs = search needs
 
--- src/judge.rt:123:17
 returns : tie.Need-returns
 returns c = simp (sym (c .before .before .before .before .before .is-in .ensures) ∙ c .before .before .before .before .if1 .taken, sym (c .before .before .before .is-in2 .ensures) ∙ c .before .before .if2 .taken, sym (c .before .is-pair .ensures) ∙ c .if3 .taken)
 
--- src/judge.rt:125:13
 returns-2 : tie.Need-returns-2
 returns-2 c = simp (sym (c .before .before .before .before .before .is-in .ensures) ∙ c .before .before .before .before .if1 .taken, sym (c .before .before .before .is-in2 .ensures) ∙ c .before .before .if2 .taken, sym (c .before .is-pair .ensures) ∙ c .if3 .left)
 
--- src/judge.rt:127:9
 returns-3 : tie.Need-returns-3
 returns-3 c = simp (sym (c .before .before .before .is-in .ensures) ∙ c .before .before .if1 .taken, sym (c .before .is-in2 .ensures) ∙ c .if2 .left)
 
--- src/judge.rt:117:1
 returns-4 : tie.Need-returns-4
 returns-4 c = simp (sym (c .before .is-in .ensures) ∙ c .if1 .left)
 

@@ -6,35 +6,27 @@ use Rattle.lines.proofs.lines.put_catalogue_line.Tie as tie
 use Rattle.lines.proofs.lines.put_catalogue_line.Reads as reads
 use Rattle.lines.proofs.lines.put_catalogue_line.Lts as lts
 
--- src/fill.rt:41:20
 cast-next : tie.Need-cast-next
 cast-next c = search needs
 
--- src/fill.rt:41:5
 element-write-next : tie.Need-element-write-next
 element-write-next c = search needs
 
--- src/fill.rt:42:21
 cast-next-2 : tie.Need-cast-next-2
 cast-next-2 c = search needs
 
--- src/fill.rt:42:5
 element-write-next-2 : tie.Need-element-write-next-2
 element-write-next-2 c = search needs
 
--- src/fill.rt:44:9
 element-write-next-3 : tie.Need-element-write-next-3
 element-write-next-3 c = search needs
 
--- src/fill.rt:46:9
 element-write-next-4 : tie.Need-element-write-next-4
 element-write-next-4 c = search needs
 
--- src/fill.rt:35:1
 returns : tie.Need-returns
 returns c = simp (eq-eqb _ _ (c .if1 .taken))
 
--- src/fill.rt:35:1
 returns-2 : tie.Need-returns-2
 returns-2 c = simp (ne-eqb _ _ (c .if1 .left))
 

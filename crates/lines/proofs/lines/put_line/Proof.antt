@@ -13,59 +13,45 @@ use Rattle.lines.proofs.lines.put_catalogue_line.Reads as put-catalogue
 use Rattle.lines.proofs.lines.put_option.Reads as put-option-reads
 use Rattle.lines.proofs.lines.put_ordering.Reads as put-ordering-reads
 
--- src/fill.rt:110:42
 enum-told : tie.Need-enum-told
 enum-told c = search needs
 
--- src/fill.rt:110:42
 sub-put-catalogue-line : tie.Need-sub-put-catalogue-line
 sub-put-catalogue-line c = search needs
 
--- src/fill.rt:110:31
 put-catalogue-line-requires : tie.Need-put-catalogue-line-requires
 put-catalogue-line-requires c κs = (omega (arith, in-catalogue (c .before .before .args .f) (c .before .before .args .u) (c .before .before .args .n) (sym (c .before .before .pre .1 .1 .0) ∙ c .enum-told .given .1)), catalogue-fits (c .before .before .args .h) (rw (c .enum-told .given .1) at (c .before .before .pre .1 .1 .1)))
 
--- src/fill.rt:111:40
 enum-told-2 : tie.Need-enum-told-2
 enum-told-2 c = search needs
 
--- src/fill.rt:111:40
 sub-put-option : tie.Need-sub-put-option
 sub-put-option c = omega (arith, in-options (c .before .before .args .f) (c .before .before .args .u) (c .before .before .args .n) (sym (c .before .before .pre .1 .1 .0) ∙ c .enum-told2 .given .1))
 
--- src/fill.rt:111:29
 put-option-requires : tie.Need-put-option-requires
 put-option-requires c κs = (omega (arith, in-options (c .before .before .args .f) (c .before .before .args .u) (c .before .before .args .n) (sym (c .before .before .pre .1 .1 .0) ∙ c .enum-told2 .given .1)), option-fits (c .before .before .args .h) (take (c .before .before .args .n - c .before .before .args .f) (c .before .before .args .s .numbers)) (rw (c .enum-told2 .given .1) at (c .before .before .pre .1 .1 .1)))
 
--- src/fill.rt:112:42
 enum-told-3 : tie.Need-enum-told-3
 enum-told-3 c = search needs
 
--- src/fill.rt:112:42
 sub-put-ordering : tie.Need-sub-put-ordering
 sub-put-ordering c = omega (arith, in-orderings (c .before .before .args .f) (c .before .before .args .u) (c .before .before .args .n) (sym (c .before .before .pre .1 .1 .0) ∙ c .enum-told3 .given .1))
 
--- src/fill.rt:112:31
 put-ordering-requires : tie.Need-put-ordering-requires
 put-ordering-requires c κs = (omega (arith, in-orderings (c .before .before .args .f) (c .before .before .args .u) (c .before .before .args .n) (sym (c .before .before .pre .1 .1 .0) ∙ c .enum-told3 .given .1)), ordering-fits (c .before .before .args .h) (take (c .before .before .args .u - c .before .before .args .f) (c .before .before .args .s .numbers)) (take (c .before .before .args .n - c .before .before .args .u) (c .before .before .args .s .firsts)) (take (c .before .before .args .n - c .before .before .args .u) (c .before .before .args .s .seconds)) (rw (c .enum-told3 .given .1) at (c .before .before .pre .1 .1 .1)))
 
--- src/fill.rt:113:29
 enum-told-4 : tie.Need-enum-told-4
 enum-told-4 c = search needs
 
--- src/fill.rt:102:1
 returns : tie.Need-returns
 returns c = rw (c .before .enum-told .given .1) (c .put-catalogue-line .ensures)
 
--- src/fill.rt:102:1
 returns-2 : tie.Need-returns-2
 returns-2 c = rw (c .before .enum-told2 .given .1) (c .put-option .ensures)
 
--- src/fill.rt:102:1
 returns-3 : tie.Need-returns-3
 returns-3 c = rw (c .before .enum-told3 .given .1) (c .put-ordering .ensures)
 
--- src/fill.rt:102:1
 returns-4 : tie.Need-returns-4
 returns-4 c = rw (c .enum-told4 .given .1)
 

@@ -27,43 +27,33 @@ Inv-loop s f u stop a sheet₀ at₀ line₀ sheet at line = (1 ≤ line) × (li
 abbrev μ-loop : tie.MeasureT-loop
 μ-loop s f u stop a sheet₀ at₀ line₀ sheet at line = stop - line
 
--- src/lines.rt:132:5
 loop-holds : tie.Need-loop-holds Inv-loop μ-loop
 loop-holds c = (omega arith, omega arith, omega arith, refl)
 
--- src/lines.rt:133:28
 sub-numbers-of : tie.Need-sub-numbers-of Inv-loop μ-loop
 sub-numbers-of c = omega arith
 
--- src/lines.rt:133:28
 part-numbers-of-start : tie.Need-part-numbers-of-start Inv-loop μ-loop
 part-numbers-of-start c = omega arith
 
--- src/lines.rt:133:28
 part-numbers-of-end : tie.Need-part-numbers-of-end Inv-loop μ-loop
 part-numbers-of-end c = omega arith
 
--- src/lines.rt:133:13
 numbers-of-requires : tie.Need-numbers-of-requires Inv-loop μ-loop
 numbers-of-requires c κs = search needs
 
--- src/lines.rt:134:13
 section-of-requires : tie.Need-section-of-requires Inv-loop μ-loop
 section-of-requires c κs = search needs
 
--- src/lines.rt:135:13
 judge-line-requires : tie.Need-judge-line-requires Inv-loop μ-loop
 judge-line-requires c κs = (record { ordered = omega (arith, c .before .before .before .before .before .before .before .before .before .before .before .before .before .pre); few-catalogue = omega (arith, c .before .before .before .before .before .before .before .before .before .before .before .before .before .pre); few-options = omega (arith, c .before .before .before .before .before .before .before .before .before .before .before .before .before .pre); few-orderings = omega (arith, c .before .before .before .before .before .before .before .before .before .before .before .before .before .pre, c .before .before .before .before .before .before .before .before .before .before .loop-test .taken) }, (c .before .before .before .before .before .before .before .section-of .ensures, (search needs, (search needs, search needs))))
 
--- src/lines.rt:137:28
 enum-known-v : tie.Need-enum-known-v Inv-loop μ-loop
 enum-known-v c = search needs
 
--- src/lines.rt:138:17
 refused-requires : tie.Need-refused-requires Inv-loop μ-loop
 refused-requires c κs = search needs
 
--- src/lines.rt:138:17
 returns : tie.Need-returns Inv-loop μ-loop
 returns c = let g = c .before .before .before .before .before .before .before .before .before .before .before .before .before .before .before .before .before .before .args in
     let a = c .before .before .before .before .before .before .before .before .before .before .before .before .before .before .before .before .loop in
@@ -71,47 +61,36 @@ returns c = let g = c .before .before .before .before .before .before .before .b
     (c .before .before .before .before .before .before .before .before .before .before .before .before .before .before .before .loop-test .taken) (c .before .before .before .before .before .before .before .before .before .before .before .before .before .numbers-of .ensures ∙ ap numbers-of (to-end (a .at) (g .s .now))) (c .before .before .before .before .before .before .before .before .before .before .before .before .section-of .ensures) (c .before .before .before .before .judge-line .ensures) (a .inv .3) in
     broken _ _ _ (a .line) _ _ _ t (c .before .before .v .given .1) (c .refused .ensures)
 
--- src/lines.rt:141:21
 enum-told : tie.Need-enum-told Inv-loop μ-loop
 enum-told c = search needs
 
--- src/lines.rt:141:21
 byte-at-requires : tie.Need-byte-at-requires Inv-loop μ-loop
 byte-at-requires c κs = search needs
 
--- src/lines.rt:142:25
 put-line-requires : tie.Need-put-line-requires Inv-loop μ-loop
 put-line-requires c κs = (record { ordered = omega (arith, c .before .before .before .before .before .before .before .before .before .before .before .before .before .before .before .before .before .pre); few-catalogue = omega (arith, c .before .before .before .before .before .before .before .before .before .before .before .before .before .before .before .before .before .pre); few-options = omega (arith, c .before .before .before .before .before .before .before .before .before .before .before .before .before .before .before .before .before .pre); few-orderings = omega (arith, c .before .before .before .before .before .before .before .before .before .before .before .before .before .before .before .before .before .pre, c .before .before .before .before .before .before .before .before .before .before .before .before .before .before .loop-test .taken) }, (omega (arith, c .before .before .before .before .before .before .before .before .before .before .before .before .before .before .before .loop .inv), (c .before .before .before .before .before .before .before .before .before .before .before .section-of .ensures, sym (c .before .before .before .judge-line .ensures) ∙ c .before .enum-told .given .1)))
 
--- src/lines.rt:143:39
 sub-line-length : tie.Need-sub-line-length Inv-loop μ-loop
 sub-line-length c = omega (arith, c .before .before .before .before .before .before .before .before .before .before .before .before .before .before .before .before .loop .inv, c .before .before .before .before .before .before .before .before .before .before .before .before .before .before .before .loop-test .taken, c .before .before .before .before .before .before .before .before .before .before .before .before .before .before .before .before .before .before .fits, c .before .before .before .before .before .before .before .before .before .before .before .before .before .before .before .before .before .before .pre)
 
--- src/lines.rt:143:39
 part-line-length-start : tie.Need-part-line-length-start Inv-loop μ-loop
 part-line-length-start c = omega (arith, c .before .before .before .before .before .before .before .before .before .before .before .before .before .before .before .before .loop .inv, c .before .before .before .before .before .before .before .before .before .before .before .before .before .before .before .loop-test .taken, c .before .before .before .before .before .before .before .before .before .before .before .before .before .before .before .before .before .before .fits, c .before .before .before .before .before .before .before .before .before .before .before .before .before .before .before .before .before .before .pre)
 
--- src/lines.rt:143:39
 part-line-length-end : tie.Need-part-line-length-end Inv-loop μ-loop
 part-line-length-end c = omega (arith, c .before .before .before .before .before .before .before .before .before .before .before .before .before .before .before .before .loop .inv, c .before .before .before .before .before .before .before .before .before .before .before .before .before .before .before .loop-test .taken, c .before .before .before .before .before .before .before .before .before .before .before .before .before .before .before .before .before .before .fits, c .before .before .before .before .before .before .before .before .before .before .before .before .before .before .before .before .before .before .pre)
 
--- src/lines.rt:143:27
 line-length-requires : tie.Need-line-length-requires Inv-loop μ-loop
 line-length-requires c κs = search needs
 
--- src/lines.rt:143:22
 add-at : tie.Need-add-at Inv-loop μ-loop
 add-at c = let e = rw (to-end (c .before .before .before .before .before .before .before .before .before .before .before .before .before .before .before .before .before .before .loop .at) (c .before .before .before .before .before .before .before .before .before .before .before .before .before .before .before .before .before .before .before .before .args .s .now), length-drop (c .before .before .before .before .before .before .before .before .before .before .before .before .before .before .before .before .before .before .loop .at) (c .before .before .before .before .before .before .before .before .before .before .before .before .before .before .before .before .before .before .before .before .args .s .now)) at (c .line-length .ensures .1) in omega (arith, e, c .before .before .before .before .before .before .before .before .before .before .before .before .before .before .before .before .before .before .loop .inv, c .before .before .before .before .before .before .before .before .before .before .before .before .before .before .before .before .before .before .before .before .fits, c .before .before .before .before .before .before .before .before .before .before .before .before .before .before .before .before .before .before .before .before .good)
 
--- src/lines.rt:144:17
 add-line : tie.Need-add-line Inv-loop μ-loop
 add-line c = omega (arith, c .before .before .before .before .before .before .before .before .before .before .before .before .before .before .before .before .before .before .loop .inv, c .before .before .before .before .before .before .before .before .before .before .before .before .before .before .before .before .before .loop-test .taken, c .before .before .before .before .before .before .before .before .before .before .before .before .before .before .before .before .before .before .before .before .fits, c .before .before .before .before .before .before .before .before .before .before .before .before .before .before .before .before .before .before .before .before .pre)
 
--- src/lines.rt:132:5
 loop-less : tie.Need-loop-less Inv-loop μ-loop
 loop-less c = omega (arith, c .before .before .before .before .before .before .before .before .before .before .before .before .before .before .before .before .before .before .loop .inv, c .before .before .before .before .before .before .before .before .before .before .before .before .before .before .before .before .before .loop-test .taken, c .before .before .before .before .before .before .before .before .before .before .before .before .before .before .before .before .before .before .before .before .fits, c .before .before .before .before .before .before .before .before .before .before .before .before .before .before .before .before .before .before .before .before .pre)
 
--- src/lines.rt:132:5
 loop-again : tie.Need-loop-again Inv-loop μ-loop
 loop-again c = let g = c .before .before .before .before .before .before .before .before .before .before .before .before .before .before .before .before .before .before .before .before .args in
     let a = c .before .before .before .before .before .before .before .before .before .before .before .before .before .before .before .before .before .before .loop in
@@ -125,11 +104,9 @@ loop-again c = let g = c .before .before .before .before .before .before .before
           t (c .before .before .before .before .enum-told .given .1) (c .before .before .before .byte-at .ensures) (c .before .before .put-line .ensures) (ap (λ (k : ℕ). a .at + k) (c .line-length .ensures .0 ∙ ap line-length (to-end (a .at) (g .s .now)))),
     )
 
--- src/lines.rt:148:5
 answered-requires : tie.Need-answered-requires Inv-loop μ-loop
 answered-requires c κs = search needs
 
--- src/lines.rt:124:1
 returns-2 : tie.Need-returns-2 Inv-loop μ-loop
 returns-2 c = let g = c .before .before .before .before .args in
     let a = c .before .before .loop in

@@ -6,23 +6,18 @@ use Rattle.lines.proofs.result.answered.Reads as reads
 use Rattle.lines.proofs.result.answered.Lts as lts
 use Rattle.lines.proofs.result.refused.Reads as refused-reads
 
--- src/result.rt:30:29
 enum-told : tie.Need-enum-told
 enum-told c = search needs
 
--- src/result.rt:31:27
 enum-known-answer : tie.Need-enum-known-answer
 enum-known-answer c = search needs
 
--- src/result.rt:31:43
 refused-requires : tie.Need-refused-requires
 refused-requires c κs = search needs
 
--- src/result.rt:26:1
 returns : tie.Need-returns
 returns c = rw (c .enum-told .given .1)
 
--- src/result.rt:26:1
 returns-2 : tie.Need-returns-2
 returns-2 c = rw (c .before .before .answer .given .1) (c .refused .ensures)
 

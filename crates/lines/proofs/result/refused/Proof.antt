@@ -6,11 +6,9 @@ use Rattle.lines.proofs.result.refused.Reads as reads
 use Rattle.lines.proofs.result.refused.Lts as lts
 use Rattle.sheet.proofs.sheet.Sheet.empty.Reads as empty-reads
 
--- src/result.rt:21:16
 empty-requires : tie.Need-empty-requires
 empty-requires c κs = search needs
 
--- src/result.rt:16:1
 returns : tie.Need-returns
 returns c = rw (c .empty .ensures)
 

@@ -5,19 +5,15 @@ use Rattle.reader.proofs.reading.bad_trailer.Tie as tie
 use Rattle.reader.proofs.reading.bad_trailer.Reads as reads
 use Rattle.reader.proofs.reading.bad_trailer.Lts as lts
 
--- src/read.rt:35:9
 returns : tie.Need-returns
 returns c = simp (lt-ltb _ _ (c .if1 .taken))
 
--- src/read.rt:38:9
 returns-2 : tie.Need-returns-2
 returns-2 c = simp (le-ltb _ _ (c .before .if1 .left), lt-ltb _ _ (c .if2 .taken))
 
--- src/read.rt:41:9
 returns-3 : tie.Need-returns-3
 returns-3 c = simp (le-ltb _ _ (c .before .before .if1 .left), le-ltb _ _ (c .before .if2 .left), lt-ltb _ _ (c .if3 .taken))
 
--- src/read.rt:31:1
 returns-4 : tie.Need-returns-4
 returns-4 c = simp (le-ltb _ _ (c .before .before .if1 .left), le-ltb _ _ (c .before .if2 .left), le-ltb _ _ (c .if3 .left))
 

@@ -20,80 +20,62 @@ use Rattle.shape.proofs.numbers_of.Reads as numbers-of-reads
 use Rattle.shape.proofs.is_trailer.Reads as is-trailer-reads
 use Rattle.shape.proofs.last_line.Reads as last-line-reads
 
--- src/reading.rt:83:9
 refused-requires : tie.Need-refused-requires
 refused-requires c κs = search needs
 
--- src/reading.rt:83:9
 returns : tie.Need-returns
 unfolding read-sheet
 returns c = simp (lt-ltb _ _ (c .before .if1 .taken)) (c .refused .ensures)
 
--- src/reading.rt:85:9
 last-line-requires : tie.Need-last-line-requires
 last-line-requires c κs = search needs
 
--- src/reading.rt:87:19
 sub-is-trailer : tie.Need-sub-is-trailer
 sub-is-trailer c = omega (arith, c .last-line .ensures .1)
 
--- src/reading.rt:87:19
 part-is-trailer-start : tie.Need-part-is-trailer-start
 part-is-trailer-start c = omega (arith, c .last-line .ensures .1)
 
--- src/reading.rt:87:19
 part-is-trailer-end : tie.Need-part-is-trailer-end
 part-is-trailer-end c = omega (arith, c .last-line .ensures .1)
 
--- src/reading.rt:87:8
 is-trailer-requires : tie.Need-is-trailer-requires
 is-trailer-requires c κs = search needs
 
--- src/reading.rt:88:28
 sub-numbers-of : tie.Need-sub-numbers-of
 sub-numbers-of c = omega (arith, c .before .before .before .last-line .ensures .1)
 
--- src/reading.rt:88:28
 part-numbers-of-start : tie.Need-part-numbers-of-start
 part-numbers-of-start c = omega (arith, c .before .before .before .last-line .ensures .1)
 
--- src/reading.rt:88:28
 part-numbers-of-end : tie.Need-part-numbers-of-end
 part-numbers-of-end c = omega (arith, c .before .before .before .last-line .ensures .1)
 
--- src/reading.rt:88:13
 numbers-of-requires : tie.Need-numbers-of-requires
 numbers-of-requires c κs = search needs
 
--- src/reading.rt:89:51
 cast-read-trailed : tie.Need-cast-read-trailed
 cast-read-trailed c = search needs
 
--- src/reading.rt:89:69
 cast-read-trailed-2 : tie.Need-cast-read-trailed-2
 cast-read-trailed-2 c = search needs
 
--- src/reading.rt:89:88
 cast-read-trailed-3 : tie.Need-cast-read-trailed-3
 cast-read-trailed-3 c = search needs
 
--- src/reading.rt:89:9
 read-trailed-requires : tie.Need-read-trailed-requires
 read-trailed-requires c κs = let e = c .before .before .before .before .before .before .before .before .last-line in
     let s = c .before .before .before .before .before .before .before .before .before .before .before .args .text .now in
     ((e .ensures .1, trailer-lines s (e .result .start) (e .result .lines) (ap (λ (x : LastLine). x .start) (e .ensures .0)) (ap (λ (x : LastLine). x .lines) (e .ensures .0)) (ap is-trailer (sym (to-end (e .result .start) s)) ∙ sym (c .before .before .before .before .before .before .is-trailer .ensures) ∙ c .before .before .before .before .before .if2 .taken)), (search needs, search needs))
 
--- src/reading.rt:89:9
 returns-2 : tie.Need-returns-2
 returns-2 c = let e = c .before .before .before .before .before .before .before .before .before .last-line in
     let s = c .before .before .before .before .before .before .before .before .before .before .before .before .args .text .now in
     read-on s (e .result) (c .before .before .before .before .numbers-of .result) _ (c .before .before .before .before .before .before .before .before .before .before .if1 .left) (e .ensures .0) (ap is-trailer (sym (to-end (e .result .start) s)) ∙ sym (c .before .before .before .before .before .before .before .is-trailer .ensures) ∙ c .before .before .before .before .before .before .if2 .taken) (c .before .before .before .before .numbers-of .ensures ∙ ap numbers-of (to-end (e .result .start) s)) (c .read-trailed .ensures)
 
--- src/reading.rt:91:5
 refused-requires-2 : tie.Need-refused-requires-2
 refused-requires-2 c κs = search needs
 
--- src/reading.rt:79:1
 returns-3 : tie.Need-returns-3
 returns-3 c = let e = c .before .before .before .before .last-line in
     let s = c .before .before .before .before .before .before .before .args .text .now in

@@ -15,55 +15,43 @@ use Rattle.lines.proofs.read_lines.Reads as read-lines-reads
 use Rattle.shape.proofs.first_misshapen.Reads as first-misshapen-reads
 use Rattle.sheet.proofs.sheet.Sheet.sized.Reads as sized-reads
 
--- src/reading.rt:46:30
 sub-sized : tie.Need-sub-sized
 sub-sized c = search needs
 
--- src/reading.rt:46:37
 sub-sized-2 : tie.Need-sub-sized-2
 sub-sized-2 c = search needs
 
--- src/reading.rt:46:44
 sub-sized-3 : tie.Need-sub-sized-3
 sub-sized-3 c = search needs
 
--- src/reading.rt:46:9
 sized-requires : tie.Need-sized-requires
 sized-requires c κs = search needs
 
--- src/reading.rt:47:33
 slice-aggregate-first-misshapen : tie.Need-slice-aggregate-first-misshapen
 slice-aggregate-first-misshapen c = sym (length-take-le (c .before .before .before .args .at) (c .before .before .before .args .s .now) (c .before .before .before .pre .1 .1 .0))
 
--- src/reading.rt:47:9
 first-misshapen-requires : tie.Need-first-misshapen-requires
 first-misshapen-requires c κs = search needs
 
--- src/reading.rt:49:50
 enum-told : tie.Need-enum-told
 enum-told c = search needs
 
--- src/reading.rt:49:27
 read-lines-requires : tie.Need-read-lines-requires
 read-lines-requires c κs = search needs
 
--- src/reading.rt:50:21
 enum-known-found : tie.Need-enum-known-found
 enum-known-found c = search needs
 
--- src/reading.rt:52:13
 read-lines-requires-2 : tie.Need-read-lines-requires-2
 read-lines-requires-2 c κs = let g = c .before .before .before .before .before .before .before .args in
     let p = c .before .before .before .before .before .before .before .pre in
     let e = scan-line (g .f) (g .u) (take (g .at) (g .s .now)) 1 1 Start _ _ (sym (c .before .before .before .first-misshapen .ensures) ∙ c .before .found .given .1) in
     (record { ordered = p .0 .ordered; few-catalogue = p .0 .few-catalogue; few-options = p .0 .few-options; few-orderings = omega (arith, e .0, e .1, p .1 .1 .1, p .0 .few-orderings) }, e .0)
 
--- src/reading.rt:40:1
 returns : tie.Need-returns
 unfolding read-body
 returns c = rw (sym (c .before .before .before .first-misshapen .ensures) ∙ c .before .enum-told .given .1, ← c .before .before .before .before .before .sized .ensures) (c .read-lines .ensures)
 
--- src/reading.rt:40:1
 returns-2 : tie.Need-returns-2
 unfolding read-body
 returns-2 c = rw (sym (c .before .before .before .before .first-misshapen .ensures) ∙ c .before .before .found .given .1, ← c .before .before .before .before .before .before .sized .ensures) (c .read-lines2 .ensures)

@@ -16,31 +16,24 @@ Inv-loop l at i₀ i = (at ≤ i) × (all-zero (drop at l) ≡ all-zero (drop i 
 abbrev μ-loop : tie.MeasureT-loop
 μ-loop l at i₀ i = length l - i
 
--- src/check.rt:41:5
 loop-holds : tie.Need-loop-holds Inv-loop μ-loop
 loop-holds c = (omega arith, refl)
 
--- src/check.rt:42:12
 shared-slice-read-if1 : tie.Need-shared-slice-read-if1 Inv-loop μ-loop
 shared-slice-read-if1 c = omega arith
 
--- src/check.rt:43:13
 returns : tie.Need-returns Inv-loop μ-loop
 returns c = sym (c .before .before .before .loop .inv .1 ∙ zero-bad _ _ (c .before .before .loop-test .taken) (c .if1 .taken))
 
--- src/check.rt:45:9
 add-i : tie.Need-add-i Inv-loop μ-loop
 add-i c = omega arith
 
--- src/check.rt:41:5
 loop-less : tie.Need-loop-less Inv-loop μ-loop
 loop-less c = omega arith
 
--- src/check.rt:41:5
 loop-again : tie.Need-loop-again Inv-loop μ-loop
 loop-again c = (omega arith, c .before .before .before .loop .inv .1 ∙ zero-on _ _ (c .before .before .loop-test .taken) (c .if1 .left))
 
--- src/check.rt:37:1
 returns-2 : tie.Need-returns-2 Inv-loop μ-loop
 returns-2 c = sym (c .before .loop .inv .1 ∙ zero-end _ _ (c .loop-test .left))
 

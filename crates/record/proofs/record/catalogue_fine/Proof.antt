@@ -20,63 +20,48 @@ Inv-loop letters befores afters n i₀ i = (i ≤ n) × (catalogue-fine n 0 lett
 abbrev μ-loop : tie.MeasureT-loop
 μ-loop letters befores afters n i₀ i = n - i
 
--- src/record.rt:68:5
 loop-holds : tie.Need-loop-holds Inv-loop μ-loop
 loop-holds c = (omega arith, rw less-none)
 
--- src/record.rt:69:17
 shared-slice-read-c : tie.Need-shared-slice-read-c Inv-loop μ-loop
 shared-slice-read-c c = omega arith
 
--- src/record.rt:70:17
 shared-slice-read-a : tie.Need-shared-slice-read-a Inv-loop μ-loop
 shared-slice-read-a c = omega arith
 
--- src/record.rt:70:17
 cast-a : tie.Need-cast-a Inv-loop μ-loop
 cast-a c = omega (arith, c .shared-slice-known5 .given (c .before .before .before .loop .i))
 
--- src/record.rt:71:17
 shared-slice-read-b : tie.Need-shared-slice-read-b Inv-loop μ-loop
 shared-slice-read-b c = omega arith
 
--- src/record.rt:71:17
 cast-b : tie.Need-cast-b Inv-loop μ-loop
 cast-b c = omega (arith, c .shared-slice-known6 .given (c .before .before .before .before .loop .i))
 
--- src/record.rt:72:13
 is-letter-requires : tie.Need-is-letter-requires Inv-loop μ-loop
 is-letter-requires c κs = search needs
 
--- src/record.rt:73:13
 returns : tie.Need-returns Inv-loop μ-loop
 returns c = sym (c .before .before .before .before .before .before .loop .inv .1 ∙ catalogue-bad-letter _ _ _ _ _ (c .before .before .before .before .before .loop-test .taken) (sym (c .before .is-letter .ensures) ∙ not-true _ (c .if1 .taken)))
 
--- src/record.rt:75:13
 judge-catalogue-line-requires : tie.Need-judge-catalogue-line-requires Inv-loop μ-loop
 judge-catalogue-line-requires c κs = search needs
 
--- src/record.rt:82:13
 is-fine-requires : tie.Need-is-fine-requires Inv-loop μ-loop
 is-fine-requires c κs = search needs
 
--- src/record.rt:83:13
 returns-2 : tie.Need-returns-2 Inv-loop μ-loop
 returns-2 c = sym (c .before .before .before .before .before .before .before .before .before .loop .inv .1 ∙ catalogue-bad _ _ _ _ _ (c .before .before .before .before .before .before .before .before .loop-test .taken) (sym (c .before .before .before .before .is-letter .ensures) ∙ not-false _ (c .before .before .before .if1 .left)) (ap is-fine (sym (c .before .before .judge-catalogue-line .ensures)) ∙ sym (c .before .is-fine .ensures) ∙ not-true _ (c .if2 .taken)))
 
--- src/record.rt:85:9
 add-i : tie.Need-add-i Inv-loop μ-loop
 add-i c = omega arith
 
--- src/record.rt:68:5
 loop-less : tie.Need-loop-less Inv-loop μ-loop
 loop-less c = omega arith
 
--- src/record.rt:68:5
 loop-again : tie.Need-loop-again Inv-loop μ-loop
 loop-again c = (omega arith, c .before .before .before .before .before .before .before .before .before .loop .inv .1 ∙ catalogue-on _ _ _ _ _ (c .before .before .before .before .before .before .before .before .loop-test .taken) (sym (c .before .before .before .before .is-letter .ensures) ∙ not-false _ (c .before .before .before .if1 .left)) (ap is-fine (sym (c .before .before .judge-catalogue-line .ensures)) ∙ sym (c .before .is-fine .ensures) ∙ not-false _ (c .if2 .left)))
 
--- src/record.rt:61:1
 returns-3 : tie.Need-returns-3 Inv-loop μ-loop
 returns-3 c = sym (c .before .loop .inv .1 ∙ catalogue-end _ _ _ _ _ (c .loop-test .left))
 

@@ -11,38 +11,30 @@ use Rattle.record.proofs.record.catalogue_recorded.Lts as lts
 use Rattle.record.proofs.record.all_zero.Reads as all-zero-reads
 use Rattle.record.proofs.record.catalogue_fine.Reads as catalogue-fine-reads
 
--- src/record.rt:170:9
 catalogue-fine-requires : tie.Need-catalogue-fine-requires
 catalogue-fine-requires c κs = search needs
 
--- src/record.rt:171:9
 returns : tie.Need-returns
 unfolding catalogue-recorded
 returns c = sym (and-stop _ _ (sym (c .before .catalogue-fine .ensures) ∙ not-true _ (c .if1 .taken)))
 
--- src/record.rt:173:9
 all-zero-requires : tie.Need-all-zero-requires
 all-zero-requires c κs = search needs
 
--- src/record.rt:174:9
 returns-2 : tie.Need-returns-2
 unfolding catalogue-recorded
 returns-2 c = sym (and-on _ _ (sym (c .before .before .before .catalogue-fine .ensures) ∙ not-false _ (c .before .before .if1 .left)) ∙ and-stop _ _ (sym (c .before .all-zero .ensures) ∙ not-true _ (c .if2 .taken)))
 
--- src/record.rt:176:9
 all-zero-requires-2 : tie.Need-all-zero-requires-2
 all-zero-requires-2 c κs = search needs
 
--- src/record.rt:177:9
 returns-3 : tie.Need-returns-3
 unfolding catalogue-recorded
 returns-3 c = sym (and-on _ _ (sym (c .before .before .before .before .before .catalogue-fine .ensures) ∙ not-false _ (c .before .before .before .before .if1 .left)) ∙ and-on _ _ (sym (c .before .before .before .all-zero .ensures) ∙ not-false _ (c .before .before .if2 .left)) ∙ and-stop _ _ (sym (c .before .all-zero2 .ensures) ∙ not-true _ (c .if3 .taken)))
 
--- src/record.rt:179:5
 all-zero-requires-3 : tie.Need-all-zero-requires-3
 all-zero-requires-3 c κs = search needs
 
--- src/record.rt:166:1
 returns-4 : tie.Need-returns-4
 unfolding catalogue-recorded
 returns-4 c = c .all-zero3 .ensures ∙ sym (and-on _ _ (sym (c .before .before .before .before .before .before .catalogue-fine .ensures) ∙ not-false _ (c .before .before .before .before .before .if1 .left)) ∙ and-on _ _ (sym (c .before .before .before .before .all-zero .ensures) ∙ not-false _ (c .before .before .before .if2 .left)) ∙ and-on _ _ (sym (c .before .before .all-zero2 .ensures) ∙ not-false _ (c .before .if3 .left)))

@@ -5,11 +5,9 @@ use Rattle.record.proofs.record.is_letter.Tie as tie
 use Rattle.record.proofs.record.is_letter.Reads as reads
 use Rattle.record.proofs.record.is_letter.Lts as lts
 
--- src/record.rt:27:9
 returns : tie.Need-returns
 returns c = simp (eq-eqb _ _ (c .if1 .taken))
 
--- src/record.rt:23:1
 returns-2 : tie.Need-returns-2
 returns-2 c = simp (ne-eqb _ _ (c .if1 .left))
 

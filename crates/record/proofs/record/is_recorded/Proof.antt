@@ -16,16 +16,13 @@ use Rattle.record.proofs.record.options_recorded.Reads as options-recor
 use Rattle.record.proofs.record.orderings_recorded.Reads as orderings-recorded-reads
 use Rattle.record.proofs.record.within_limits.Reads as within-limits-reads
 
--- src/record.rt:225:9
 within-limits-requires : tie.Need-within-limits-requires
 within-limits-requires c κs = search needs
 
--- src/record.rt:226:9
 returns : tie.Need-returns
 unfolding is-recorded
 returns c = sym (and-stop _ _ (sym (c .before .within-limits .ensures) ∙ not-true _ (c .if1 .taken)))
 
--- src/record.rt:228:9
 catalogue-recorded-requires : tie.Need-catalogue-recorded-requires
 catalogue-recorded-requires c κs = let k = limits-kept (c .before .before .before .before .before .before .before .before .before .args .t1 .«catalogue_lines») (c .before .before .before .before .before .before .before .before .before .args .t1 .«option_count») (c .before .before .before .before .before .before .before .before .before .args .t1 .«ordering_count») (sym (c .before .before .before .before .before .before .before .before .within-limits .ensures) ∙ not-false _ (c .before .before .before .before .before .before .before .if1 .left)) in
     let lletters : length (c .before .before .before .before .before .before .before .before .before .args .t1 .letters) ≡ 512 = search (needs, c .before .before .before .before .before .before .before .before .before .good) in
@@ -33,24 +30,20 @@ catalogue-recorded-requires c κs = let k = limits-kept (c .before .before .befo
     let lafters : length (c .before .before .before .before .before .before .before .before .before .args .t1 .afters) ≡ 512 = search (needs, c .before .before .before .before .before .before .before .before .before .good) in
     (omega (arith, k), (omega (arith, k), omega (arith, k)))
 
--- src/record.rt:229:9
 returns-2 : tie.Need-returns-2
 unfolding is-recorded
 returns-2 c = sym (and-on _ _ (sym (c .before .before .before .before .before .before .before .before .before .before .within-limits .ensures) ∙ not-false _ (c .before .before .before .before .before .before .before .before .before .if1 .left)) ∙ and-stop _ _ (sym (c .before .catalogue-recorded .ensures) ∙ not-true _ (c .if2 .taken)))
 
--- src/record.rt:231:9
 options-recorded-requires : tie.Need-options-recorded-requires
 options-recorded-requires c κs = let k = limits-kept (c .before .before .before .before .before .before .before .before .before .before .before .before .before .before .before .before .args .t1 .«catalogue_lines») (c .before .before .before .before .before .before .before .before .before .before .before .before .before .before .before .before .args .t1 .«option_count») (c .before .before .before .before .before .before .before .before .before .before .before .before .before .before .before .before .args .t1 .«ordering_count») (sym (c .before .before .before .before .before .before .before .before .before .before .before .before .before .before .before .within-limits .ensures) ∙ not-false _ (c .before .before .before .before .before .before .before .before .before .before .before .before .before .before .if1 .left)) in
     let lnumbers : length (c .before .before .before .before .before .before .before .before .before .before .before .before .before .before .before .before .args .t1 .numbers) ≡ 32 = search (needs, c .before .before .before .before .before .before .before .before .before .before .before .before .before .before .before .before .good) in
     let lweights : length (c .before .before .before .before .before .before .before .before .before .before .before .before .before .before .before .before .args .t1 .weights) ≡ 32 = search (needs, c .before .before .before .before .before .before .before .before .before .before .before .before .before .before .before .before .good) in
     (omega (arith, k), omega (arith, k))
 
--- src/record.rt:232:9
 returns-3 : tie.Need-returns-3
 unfolding is-recorded
 returns-3 c = sym (and-on _ _ (sym (c .before .before .before .before .before .before .before .before .before .before .before .before .before .before .before .before .before .within-limits .ensures) ∙ not-false _ (c .before .before .before .before .before .before .before .before .before .before .before .before .before .before .before .before .if1 .left)) ∙ and-on _ _ (sym (c .before .before .before .before .before .before .before .before .catalogue-recorded .ensures) ∙ not-false _ (c .before .before .before .before .before .before .before .if2 .left)) ∙ and-stop _ _ (sym (c .before .options-recorded .ensures) ∙ not-true _ (c .if3 .taken)))
 
--- src/record.rt:234:5
 orderings-recorded-requires : tie.Need-orderings-recorded-requires
 orderings-recorded-requires c κs = let k = limits-kept (c .before .before .before .before .before .before .before .before .before .before .before .before .before .before .before .before .before .before .before .before .before .before .before .before .before .before .before .args .t1 .«catalogue_lines») (c .before .before .before .before .before .before .before .before .before .before .before .before .before .before .before .before .before .before .before .before .before .before .before .before .before .before .before .args .t1 .«option_count») (c .before .before .before .before .before .before .before .before .before .before .before .before .before .before .before .before .before .before .before .before .before .before .before .before .before .before .before .args .t1 .«ordering_count») (sym (c .before .before .before .before .before .before .before .before .before .before .before .before .before .before .before .before .before .before .before .before .before .before .before .before .before .before .within-limits .ensures) ∙ not-false _ (c .before .before .before .before .before .before .before .before .before .before .before .before .before .before .before .before .before .before .before .before .before .before .before .before .before .if1 .left)) in
     let lnumbers : length (c .before .before .before .before .before .before .before .before .before .before .before .before .before .before .before .before .before .before .before .before .before .before .before .before .before .before .before .args .t1 .numbers) ≡ 32 = search (needs, c .before .before .before .before .before .before .before .before .before .before .before .before .before .before .before .before .before .before .before .before .before .before .before .before .before .before .before .good) in
@@ -59,7 +52,6 @@ orderings-recorded-requires c κs = let k = limits-kept (c .before .before .befo
     let lbonus : length (c .before .before .before .before .before .before .before .before .before .before .before .before .before .before .before .before .before .before .before .before .before .before .before .before .before .before .before .args .t1 .«ordering_weights») ≡ 64 = search (needs, c .before .before .before .before .before .before .before .before .before .before .before .before .before .before .before .before .before .before .before .before .before .before .before .before .before .before .before .good) in
     (omega (arith, k), (omega (arith, k), (omega (arith, k), omega (arith, k))))
 
--- src/record.rt:222:1
 returns-4 : tie.Need-returns-4
 unfolding is-recorded
 returns-4 c = c .orderings-recorded .ensures ∙ sym (and-on _ _ (sym (c .before .before .before .before .before .before .before .before .before .before .before .before .before .before .before .before .before .before .before .before .before .before .before .before .before .before .before .within-limits .ensures) ∙ not-false _ (c .before .before .before .before .before .before .before .before .before .before .before .before .before .before .before .before .before .before .before .before .before .before .before .before .before .before .if1 .left)) ∙ and-on _ _ (sym (c .before .before .before .before .before .before .before .before .before .before .before .before .before .before .before .before .before .before .catalogue-recorded .ensures) ∙ not-false _ (c .before .before .before .before .before .before .before .before .before .before .before .before .before .before .before .before .before .if2 .left)) ∙ and-on _ _ (sym (c .before .before .before .before .before .before .before .before .before .before .before .options-recorded .ensures) ∙ not-false _ (c .before .before .before .before .before .before .before .before .before .before .if3 .left)))

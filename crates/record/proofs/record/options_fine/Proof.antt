@@ -20,59 +20,45 @@ Inv-loop numbers weights n i₀ i = (i ≤ n) × (options-fine n 0 numbers weigh
 abbrev μ-loop : tie.MeasureT-loop
 μ-loop numbers weights n i₀ i = n - i
 
--- src/record.rt:97:5
 loop-holds : tie.Need-loop-holds Inv-loop μ-loop
 loop-holds c = (omega arith, rw less-none)
 
--- src/record.rt:98:17
 shared-slice-read-a : tie.Need-shared-slice-read-a Inv-loop μ-loop
 shared-slice-read-a c = omega arith
 
--- src/record.rt:98:17
 cast-a : tie.Need-cast-a Inv-loop μ-loop
 cast-a c = omega (arith, c .shared-slice-known3 .given (c .before .before .loop .i))
 
--- src/record.rt:99:17
 mul-b : tie.Need-mul-b Inv-loop μ-loop
 mul-b c = search needs
 
--- src/record.rt:99:17
 shared-slice-read-b : tie.Need-shared-slice-read-b Inv-loop μ-loop
 shared-slice-read-b c = omega arith
 
--- src/record.rt:99:17
 cast-b : tie.Need-cast-b Inv-loop μ-loop
 cast-b c = omega (arith, c .shared-slice-known4 .given (c .before .before .before .loop .i))
 
--- src/record.rt:107:33
 slice-aggregate-judge-option : tie.Need-slice-aggregate-judge-option Inv-loop μ-loop
 slice-aggregate-judge-option c = sym (length-take-le (c .before .before .before .before .loop .i) (c .before .before .before .before .before .before .before .args .numbers .now) (omega arith))
 
--- src/record.rt:107:13
 judge-option-requires : tie.Need-judge-option-requires Inv-loop μ-loop
 judge-option-requires c κs = search needs
 
--- src/record.rt:108:13
 is-fine-requires : tie.Need-is-fine-requires Inv-loop μ-loop
 is-fine-requires c κs = search needs
 
--- src/record.rt:109:13
 returns : tie.Need-returns Inv-loop μ-loop
 returns c = sym (c .before .before .before .before .before .before .before .loop .inv .1 ∙ options-bad _ _ _ _ (c .before .before .before .before .before .before .loop-test .taken) (ap is-fine (sym (c .before .before .judge-option .ensures)) ∙ sym (c .before .is-fine .ensures) ∙ not-true _ (c .if1 .taken)))
 
--- src/record.rt:111:9
 add-i : tie.Need-add-i Inv-loop μ-loop
 add-i c = omega arith
 
--- src/record.rt:97:5
 loop-less : tie.Need-loop-less Inv-loop μ-loop
 loop-less c = omega arith
 
--- src/record.rt:97:5
 loop-again : tie.Need-loop-again Inv-loop μ-loop
 loop-again c = (omega arith, c .before .before .before .before .before .before .before .loop .inv .1 ∙ options-on _ _ _ _ (c .before .before .before .before .before .before .loop-test .taken) (ap is-fine (sym (c .before .before .judge-option .ensures)) ∙ sym (c .before .is-fine .ensures) ∙ not-false _ (c .if1 .left)))
 
--- src/record.rt:91:1
 returns-2 : tie.Need-returns-2 Inv-loop μ-loop
 returns-2 c = sym (c .before .loop .inv .1 ∙ options-end _ _ _ _ (c .loop-test .left))
 

@@ -12,29 +12,23 @@ use Rattle.record.proofs.record.all_zero.Reads as all-zero-reads
 use Rattle.record.proofs.record.all_zero_weights.Reads as all-zero-weights-reads
 use Rattle.record.proofs.record.options_fine.Reads as options-fine-reads
 
--- src/record.rt:187:9
 options-fine-requires : tie.Need-options-fine-requires
 options-fine-requires c κs = search needs
 
--- src/record.rt:188:9
 returns : tie.Need-returns
 unfolding options-recorded
 returns c = sym (and-stop _ _ (sym (c .before .options-fine .ensures) ∙ not-true _ (c .if1 .taken)))
 
--- src/record.rt:190:9
 all-zero-requires : tie.Need-all-zero-requires
 all-zero-requires c κs = search needs
 
--- src/record.rt:191:9
 returns-2 : tie.Need-returns-2
 unfolding options-recorded
 returns-2 c = sym (and-on _ _ (sym (c .before .before .before .options-fine .ensures) ∙ not-false _ (c .before .before .if1 .left)) ∙ and-stop _ _ (sym (c .before .all-zero .ensures) ∙ not-true _ (c .if2 .taken)))
 
--- src/record.rt:193:5
 all-zero-weights-requires : tie.Need-all-zero-weights-requires
 all-zero-weights-requires c κs = search needs
 
--- src/record.rt:183:1
 returns-3 : tie.Need-returns-3
 unfolding options-recorded
 returns-3 c = c .all-zero-weights .ensures ∙ sym (and-on _ _ (sym (c .before .before .before .before .options-fine .ensures) ∙ not-false _ (c .before .before .before .if1 .left)) ∙ and-on _ _ (sym (c .before .before .all-zero .ensures) ∙ not-false _ (c .before .if2 .left)))

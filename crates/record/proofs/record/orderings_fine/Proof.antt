@@ -20,71 +20,54 @@ Inv-loop subscribed firsts seconds weights n i₀ i = (i ≤ n) × (orderings-fi
 abbrev μ-loop : tie.MeasureT-loop
 μ-loop subscribed firsts seconds weights n i₀ i = n - i
 
--- src/record.rt:130:5
 loop-holds : tie.Need-loop-holds Inv-loop μ-loop
 loop-holds c = (omega arith, rw less-none)
 
--- src/record.rt:131:17
 shared-slice-read-a : tie.Need-shared-slice-read-a Inv-loop μ-loop
 shared-slice-read-a c = omega arith
 
--- src/record.rt:131:17
 cast-a : tie.Need-cast-a Inv-loop μ-loop
 cast-a c = omega (arith, c .shared-slice-known5 .given (c .before .before .loop .i))
 
--- src/record.rt:132:17
 shared-slice-read-b : tie.Need-shared-slice-read-b Inv-loop μ-loop
 shared-slice-read-b c = omega arith
 
--- src/record.rt:132:17
 cast-b : tie.Need-cast-b Inv-loop μ-loop
 cast-b c = omega (arith, c .shared-slice-known6 .given (c .before .before .before .loop .i))
 
--- src/record.rt:133:17
 mul-w : tie.Need-mul-w Inv-loop μ-loop
 mul-w c = search needs
 
--- src/record.rt:133:17
 shared-slice-read-w : tie.Need-shared-slice-read-w Inv-loop μ-loop
 shared-slice-read-w c = omega arith
 
--- src/record.rt:133:17
 cast-w : tie.Need-cast-w Inv-loop μ-loop
 cast-w c = omega (arith, c .shared-slice-known7 .given (c .before .before .before .before .loop .i))
 
--- src/record.rt:141:47
 slice-aggregate-judge-ordering : tie.Need-slice-aggregate-judge-ordering Inv-loop μ-loop
 slice-aggregate-judge-ordering c = sym (length-take-le (c .before .before .before .before .before .loop .i) (c .before .before .before .before .before .before .before .before .before .before .args .firsts .now) (omega arith))
 
--- src/record.rt:141:61
 slice-aggregate-judge-ordering-2 : tie.Need-slice-aggregate-judge-ordering-2 Inv-loop μ-loop
 slice-aggregate-judge-ordering-2 c = sym (length-take-le (c .before .before .before .before .before .before .loop .i) (c .before .before .before .before .before .before .before .before .before .before .before .args .seconds .now) (omega arith))
 
--- src/record.rt:141:13
 judge-ordering-requires : tie.Need-judge-ordering-requires Inv-loop μ-loop
 judge-ordering-requires c κs = search needs
 
--- src/record.rt:142:13
 is-fine-requires : tie.Need-is-fine-requires Inv-loop μ-loop
 is-fine-requires c κs = search needs
 
--- src/record.rt:143:13
 returns : tie.Need-returns Inv-loop μ-loop
 returns c = sym (c .before .before .before .before .before .before .before .before .before .loop .inv .1 ∙ orderings-bad _ _ _ _ _ _ (c .before .before .before .before .before .before .before .before .loop-test .taken) (ap is-fine (sym (c .before .before .judge-ordering .ensures)) ∙ sym (c .before .is-fine .ensures) ∙ not-true _ (c .if1 .taken)))
 
--- src/record.rt:145:9
 add-i : tie.Need-add-i Inv-loop μ-loop
 add-i c = omega arith
 
--- src/record.rt:130:5
 loop-less : tie.Need-loop-less Inv-loop μ-loop
 loop-less c = omega arith
 
--- src/record.rt:130:5
 loop-again : tie.Need-loop-again Inv-loop μ-loop
 loop-again c = (omega arith, c .before .before .before .before .before .before .before .before .before .loop .inv .1 ∙ orderings-on _ _ _ _ _ _ (c .before .before .before .before .before .before .before .before .loop-test .taken) (ap is-fine (sym (c .before .before .judge-ordering .ensures)) ∙ sym (c .before .is-fine .ensures) ∙ not-false _ (c .if1 .left)))
 
--- src/record.rt:117:1
 returns-2 : tie.Need-returns-2 Inv-loop μ-loop
 returns-2 c = sym (c .before .loop .inv .1 ∙ orderings-end _ _ _ _ _ _ (c .loop-test .left))
 

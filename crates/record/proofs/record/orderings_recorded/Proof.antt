@@ -13,42 +13,33 @@ use Rattle.record.proofs.record.all_zero.Reads as all-zero-reads
 use Rattle.record.proofs.record.all_zero_weights.Reads as all-zero-weights-reads
 use Rattle.record.proofs.record.orderings_fine.Reads as orderings-fine-reads
 
--- src/record.rt:209:24
 slice-aggregate-orderings-fine : tie.Need-slice-aggregate-orderings-fine
 slice-aggregate-orderings-fine c = sym (length-take-le (c .before .before .before .before .before .args .m) (c .before .before .before .before .before .args .numbers .now) (c .before .before .before .before .before .pre .0))
 
--- src/record.rt:209:9
 orderings-fine-requires : tie.Need-orderings-fine-requires
 orderings-fine-requires c κs = search needs
 
--- src/record.rt:210:9
 returns : tie.Need-returns
 unfolding orderings-recorded
 returns c = sym (and-stop _ _ (sym (c .before .orderings-fine .ensures) ∙ not-true _ (c .if1 .taken)))
 
--- src/record.rt:212:9
 all-zero-requires : tie.Need-all-zero-requires
 all-zero-requires c κs = search needs
 
--- src/record.rt:213:9
 returns-2 : tie.Need-returns-2
 unfolding orderings-recorded
 returns-2 c = sym (and-on _ _ (sym (c .before .before .before .orderings-fine .ensures) ∙ not-false _ (c .before .before .if1 .left)) ∙ and-stop _ _ (sym (c .before .all-zero .ensures) ∙ not-true _ (c .if2 .taken)))
 
--- src/record.rt:215:9
 all-zero-requires-2 : tie.Need-all-zero-requires-2
 all-zero-requires-2 c κs = search needs
 
--- src/record.rt:216:9
 returns-3 : tie.Need-returns-3
 unfolding orderings-recorded
 returns-3 c = sym (and-on _ _ (sym (c .before .before .before .before .before .orderings-fine .ensures) ∙ not-false _ (c .before .before .before .before .if1 .left)) ∙ and-on _ _ (sym (c .before .before .before .all-zero .ensures) ∙ not-false _ (c .before .before .if2 .left)) ∙ and-stop _ _ (sym (c .before .all-zero2 .ensures) ∙ not-true _ (c .if3 .taken)))
 
--- src/record.rt:218:5
 all-zero-weights-requires : tie.Need-all-zero-weights-requires
 all-zero-weights-requires c κs = search needs
 
--- src/record.rt:197:1
 returns-4 : tie.Need-returns-4
 unfolding orderings-recorded
 returns-4 c = c .all-zero-weights .ensures ∙ sym (and-on _ _ (sym (c .before .before .before .before .before .before .orderings-fine .ensures) ∙ not-false _ (c .before .before .before .before .before .if1 .left)) ∙ and-on _ _ (sym (c .before .before .before .before .all-zero .ensures) ∙ not-false _ (c .before .before .before .if2 .left)) ∙ and-on _ _ (sym (c .before .before .all-zero2 .ensures) ∙ not-false _ (c .before .if3 .left)))

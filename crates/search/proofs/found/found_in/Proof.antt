@@ -16,35 +16,27 @@ use Rattle.so_far.proofs.nothing_found.Reads as nothing-found-reads
 use Rattle.so_far.proofs.worth.Reads as worth-reads
 use Rattle.keeping.proofs.nothing_given.Reads as nothing-given-reads
 
--- src/found.rt:41:9
 bounds-of-requires : tie.Need-bounds-of-requires
 bounds-of-requires c κs = c .before .before .before .before .pre .0
 
--- src/found.rt:51:9
 nothing-given-requires : tie.Need-nothing-given-requires
 nothing-given-requires c κs = search needs
 
--- src/found.rt:52:9
 nothing-found-requires : tie.Need-nothing-found-requires
 nothing-found-requires c κs = search needs
 
--- src/found.rt:53:9
 branch-requires : tie.Need-branch-requires
 branch-requires c κs = (c .before .before .before .before .before .before .before .pre .0, subst (Apart _ _) (sym (c .before .nothing-given .ensures)) (nothing-apart _ _), (let e = ap (λ z. z .goal) (c .nothing-found .ensures) in let k = c .before .before .bounds-of .ensures .small in omega arith), c .before .before .before .before .before .before .before .pre .1)
 
--- src/found.rt:66:9
 worth-requires : tie.Need-worth-requires
 worth-requires c κs = search needs
 
--- src/found.rt:67:41
 add-least : tie.Need-add-least
 add-least c = (let k = c .before .branch .ensures .goal in let e = c .worth .ensures in let t = c .before .before .before .before .before .before .before .before .before .pre .1 in omega arith)
 
--- src/found.rt:67:9
 least-requires : tie.Need-least-requires
 least-requires c κs = search needs
 
--- src/found.rt:28:1
 returns : tie.Need-returns
 returns c = found-answers _ _ _ _ _ _ _ _ _ (c .before .before .before .before .before .bounds-of .ensures) _ (c .before .before .before .before .nothing-given .ensures) _ _ (c .before .before .before .nothing-found .ensures) (c .before .before .branch .ensures) _ _ (c .before .worth .ensures) (c .least .ensures)
 

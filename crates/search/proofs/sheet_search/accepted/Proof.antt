@@ -11,23 +11,18 @@ use Rattle.half.proofs.open_orderings.Reads as open-orderings-reads
 use Rattle.half.proofs.options_decided.Reads as options-decided-reads
 use Rattle.half.proofs.orderings_decided.Reads as orderings-decided-reads
 
--- src/sheet_search.rt:44:9
 open-options-requires : tie.Need-open-options-requires
 open-options-requires c κs = search needs
 
--- src/sheet_search.rt:45:9
 open-orderings-requires : tie.Need-open-orderings-requires
 open-orderings-requires c κs = search needs
 
--- src/sheet_search.rt:46:9
 options-decided-requires : tie.Need-options-decided-requires
 options-decided-requires c κs = search needs
 
--- src/sheet_search.rt:47:9
 orderings-decided-requires : tie.Need-orderings-decided-requires
 orderings-decided-requires c κs = search needs
 
--- src/sheet_search.rt:40:1
 returns : tie.Need-returns
 unfolding accepted
 returns c = rw (c .before .options-decided .ensures, c .orderings-decided .ensures, chosen-filled 32 _ _ _ (c .before .before .before .open-options .ensures), chosen-filled 64 _ _ _ (c .before .before .open-orderings .ensures))

@@ -8,19 +8,15 @@ use Rattle.search.proofs.found.found_in.Reads as found-in-reads
 use Rattle.search.proofs.sheet_search.accepted.Reads as accepted-reads
 use Rattle.subscription.proofs.by_slot.Reads as by-slot-reads
 
--- src/sheet_search.rt:69:13
 by-slot-requires : tie.Need-by-slot-requires
 by-slot-requires c κs = c .pre .0
 
--- src/sheet_search.rt:71:9
 found-in-requires : tie.Need-found-in-requires
 found-in-requires c κs = (arrays-of (c .before .before .before .before .before .before .before .before .before .before .before .before .args .t1) _ (c .before .before .before .before .before .before .before .before .before .before .before .by-slot .ensures), c .before .before .before .before .before .before .before .before .before .before .before .before .pre .1)
 
--- src/sheet_search.rt:81:5
 accepted-requires : tie.Need-accepted-requires
 accepted-requires c κs = let R = c .before .before .before .before .before .before .before .before .before .before .before .before .by-slot .ensures .recorded in (R .few-options, R .few-orderings)
 
--- src/sheet_search.rt:63:1
 returns : tie.Need-returns
 returns c = answers-of (c .before .before .before .before .before .before .before .before .before .before .before .before .before .before .args .t1) _ (shows-of (c .before .before .before .before .before .before .before .before .before .before .before .before .before .before .args .t1) _ (c .before .before .before .before .before .before .before .before .before .before .before .before .before .by-slot .ensures)) _ (c .before .found-in .ensures) (c .accepted .ensures)
 

@@ -6,11 +6,9 @@ use Rattle.search.proofs.sheet_search.refused.Reads as reads
 use Rattle.search.proofs.sheet_search.refused.Lts as lts
 use Rattle.sheet.proofs.decision.Decisions.open.Reads as open-reads
 
--- src/sheet_search.rt:26:9
 open-requires : tie.Need-open-requires
 open-requires c κs = search needs
 
--- src/sheet_search.rt:23:1
 returns : tie.Need-returns
 returns c = rw (c .«open» .ensures)
 

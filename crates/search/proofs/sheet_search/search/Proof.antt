@@ -11,31 +11,24 @@ use Rattle.search.proofs.sheet_search.answer_of.Reads as answer-of-read
 use Rattle.search.proofs.sheet_search.refused.Reads as refused-reads
 use Rattle.record.proofs.is_recorded.Reads as is-recorded-reads
 
--- src/sheet_search.rt:89:9
 is-recorded-requires : tie.Need-is-recorded-requires
 is-recorded-requires c κs = search needs
 
--- src/sheet_search.rt:90:9
 refused-requires : tie.Need-refused-requires
 refused-requires c κs = search needs
 
--- src/sheet_search.rt:90:9
 returns : tie.Need-returns
 returns c = refused-recorded _ _ (sym (c .before .before .is-recorded .ensures) ∙ not-true _ (c .before .if1 .taken)) (c .refused .ensures)
 
--- src/sheet_search.rt:93:9
 refused-requires-2 : tie.Need-refused-requires-2
 refused-requires-2 c κs = search needs
 
--- src/sheet_search.rt:93:9
 returns-2 : tie.Need-returns-2
 returns-2 c = refused-tolerance _ _ (sym (c .before .before .before .is-recorded .ensures) ∙ not-false _ (c .before .before .if1 .left)) (c .before .if2 .taken) (c .refused2 .ensures)
 
--- src/sheet_search.rt:95:5
 answer-of-requires : tie.Need-answer-of-requires
 answer-of-requires c κs = (sym (c .before .before .is-recorded .ensures) ∙ not-false _ (c .before .if1 .left), c .if2 .left)
 
--- src/sheet_search.rt:86:1
 returns-3 : tie.Need-returns-3
 returns-3 c = searched _ _ (sym (c .before .before .before .is-recorded .ensures) ∙ not-false _ (c .before .before .if1 .left)) (c .before .if2 .left) (c .answer-of .ensures)
 

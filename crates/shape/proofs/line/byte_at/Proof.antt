@@ -7,15 +7,12 @@ use Rattle.shape.proofs.line.byte_at.Tie as tie
 use Rattle.shape.proofs.line.byte_at.Reads as reads
 use Rattle.shape.proofs.line.byte_at.Lts as lts
 
--- src/fill.rt:121:23
 shared-slice-read-result : tie.Need-shared-slice-read-result
 shared-slice-read-result c = search needs
 
--- src/fill.rt:118:1
 returns : tie.Need-returns
 returns c = search needs
 
--- src/fill.rt:118:1
 returns-2 : tie.Need-returns-2
 returns-2 c = sym (List·getD-eq-default (c .before .args .text .now) 0 (c .if1 .left))
 

@@ -17,37 +17,30 @@ Inv-loop text i₀ i = (i ≤ length text) × (line-length text ≡ i + line-len
 abbrev μ-loop : tie.MeasureT-loop
 μ-loop text i₀ i = length text - i
 
--- src/line.rt:12:5
 loop-holds : tie.Need-loop-holds Inv-loop μ-loop
 loop-holds c = (omega arith, omega arith)
 
--- src/line.rt:13:17
 shared-slice-read-b : tie.Need-shared-slice-read-b Inv-loop μ-loop
 shared-slice-read-b c = omega arith
 
--- src/line.rt:14:9
 add-i : tie.Need-add-i Inv-loop μ-loop
 add-i c = omega arith
 
--- src/line.rt:16:13
 returns : tie.Need-returns Inv-loop μ-loop
 returns c = let a = c .before .before .before .loop in
     let s = c .before .before .before .before .args .text .now in
     let e : line-length (drop (a .i) s) ≡ 1 = line-step s (a .i) (c .before .before .loop-test .taken) ∙ rw (eq-eqb _ _ (c .if1 .taken)) in
     (omega (arith, a .inv .1), omega arith)
 
--- src/line.rt:12:5
 loop-less : tie.Need-loop-less Inv-loop μ-loop
 loop-less c = omega arith
 
--- src/line.rt:12:5
 loop-again : tie.Need-loop-again Inv-loop μ-loop
 loop-again c = let a = c .before .before .before .loop in
     let s = c .before .before .before .before .args .text .now in
     let e : line-length (drop (a .i) s) ≡ 1 + line-length (drop (a .i + 1) s) = line-step s (a .i) (c .before .before .loop-test .taken) ∙ rw (ne-eqb _ _ (c .if1 .left)) in
     (omega arith, omega (arith, a .inv .1))
 
--- src/line.rt:8:1
 returns-2 : tie.Need-returns-2 Inv-loop μ-loop
 returns-2 c = let a = c .before .loop in
     let s = c .before .before .args .text .now in

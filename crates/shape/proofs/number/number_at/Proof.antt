@@ -16,64 +16,51 @@ Inv-loop s at value₀ next₀ left₀ value next left = (left ≤ 5) × (value 
 abbrev μ-loop : tie.MeasureT-loop
 μ-loop s at value₀ next₀ left₀ value next left = left
 
--- src/number.rt:29:5
 loop-holds : tie.Need-loop-holds Inv-loop μ-loop
 loop-holds c = (omega arith, omega arith, refl, refl)
 
--- src/number.rt:31:13
 returns : tie.Need-returns Inv-loop μ-loop
 returns c = let a = c .before .before .loop in
     let e = stop-end (a .left) (a .value) (a .next) _ (c .if1 .taken) in
     (sym (a .inv .2 ∙ e .0), omega (arith, a .inv .3, e .1))
 
--- src/number.rt:33:17
 shared-slice-read-b : tie.Need-shared-slice-read-b Inv-loop μ-loop
 shared-slice-read-b c = omega arith
 
--- src/number.rt:35:13
 returns-2 : tie.Need-returns-2 Inv-loop μ-loop
 returns-2 c = let a = c .before .before .before .before .loop in
     let e = stop-low (a .left) (a .value) (a .next) _ (c .before .before .if1 .left) (c .if2 .taken) in
     (sym (a .inv .2 ∙ e .0), omega (arith, a .inv .3, e .1))
 
--- src/number.rt:38:13
 returns-3 : tie.Need-returns-3 Inv-loop μ-loop
 returns-3 c = let a = c .before .before .before .before .before .loop in
     let e = stop-high (a .left) (a .value) (a .next) _ (c .before .before .before .if1 .left) (c .if3 .taken) in
     (sym (a .inv .2 ∙ e .0), omega (arith, a .inv .3, e .1))
 
--- src/number.rt:40:17
 mul-value : tie.Need-mul-value Inv-loop μ-loop
 mul-value c = let a = c .before .before .before .before .before .loop in omega (arith, cap-top (5 - a .left) (omega arith))
 
--- src/number.rt:40:31
 cast-value : tie.Need-cast-value Inv-loop μ-loop
 cast-value c = omega arith
 
--- src/number.rt:40:17
 add-value : tie.Need-add-value Inv-loop μ-loop
 add-value c = let a = c .before .before .before .before .before .loop in omega (arith, cap-top (5 - a .left) (omega arith))
 
--- src/number.rt:41:9
 add-next : tie.Need-add-next Inv-loop μ-loop
 add-next c = omega arith
 
--- src/number.rt:42:9
 sub-left : tie.Need-sub-left Inv-loop μ-loop
 sub-left c = omega arith
 
--- src/number.rt:29:5
 loop-less : tie.Need-loop-less Inv-loop μ-loop
 loop-less c = omega arith
 
--- src/number.rt:29:5
 loop-again : tie.Need-loop-again Inv-loop μ-loop
 loop-again c = let a = c .before .before .before .before .before .loop in
     let t = c .before .before .before .before .loop-test .taken in
     let e = more (a .left) (a .value) (a .next) _ t (c .before .before .before .if1 .left) (c .before .if2 .left) (c .if3 .left) in
     (omega arith, cap-more (a .left) (a .value) _ t (a .inv .0) (a .inv .1) (omega arith), a .inv .2 ∙ e .0, omega (arith, a .inv .3, e .1))
 
--- src/number.rt:23:1
 returns-4 : tie.Need-returns-4 Inv-loop μ-loop
 returns-4 c = let a = c .before .loop in
     let e = stop-full (a .left) (a .value) (drop (a .next) (c .before .before .args .s .now)) (c .loop-test .left) in

@@ -10,35 +10,27 @@ use Rattle.shape.proofs.number.numbers_of.Reads as reads
 use Rattle.shape.proofs.number.numbers_of.Lts as lts
 use Rattle.shape.proofs.number.number_at.Reads as number-at-reads
 
--- src/number.rt:51:9
 number-at-requires : tie.Need-number-at-requires
 number-at-requires c κs = search needs
 
--- src/number.rt:52:13
 add-p : tie.Need-add-p
 add-p c = omega (arith, width-le 5 (drop 2 (c .before .before .before .args .line .now)))
 
--- src/number.rt:53:9
 number-at-requires-2 : tie.Need-number-at-requires-2
 number-at-requires-2 c κs = search needs
 
--- src/number.rt:54:13
 add-q : tie.Need-add-q
 add-q c = omega (arith, width-le 5 (drop 2 (c .before .before .before .before .before .args .line .now)), width-le 5 (drop (c .before .before .before .number-at .result .next + 1) (c .before .before .before .before .before .args .line .now)))
 
--- src/number.rt:55:9
 number-at-requires-3 : tie.Need-number-at-requires-3
 number-at-requires-3 c κs = search needs
 
--- src/number.rt:60:17
 add-t7 : tie.Need-add-t7
 add-t7 c = search needs
 
--- src/number.rt:61:16
 add-t8 : tie.Need-add-t8
 add-t8 c = omega (arith, width-le 5 (drop 2 (c .before .before .before .before .before .before .args .line .now)), width-le 5 (drop (c .before .before .before .before .number-at .result .next + 1) (c .before .before .before .before .before .before .args .line .now)))
 
--- src/number.rt:48:1
 returns : tie.Need-returns
 returns c = let l = c .before .before .before .before .before .before .args .line .now in
     let a = c .before .before .before .before .number-at in

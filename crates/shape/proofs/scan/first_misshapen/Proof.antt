@@ -27,69 +27,53 @@ Inv-lines s f u i₀ line₀ i line = (i ≤ length s) × (line ≤ i + 1) × (f
 abbrev μ-lines : tie.MeasureT-lines
 μ-lines s f u i₀ line₀ i line = length s - i
 
--- src/scan.rt:37:5
 lines-holds : tie.Need-lines-holds Inv-columns μ-columns Inv-lines μ-lines
 lines-holds c = (omega arith, omega arith, refl)
 
--- src/scan.rt:41:13
 section-of-requires : tie.Need-section-of-requires Inv-columns μ-columns Inv-lines μ-lines
 section-of-requires c κs = search needs
 
--- src/scan.rt:44:9
 columns-holds : tie.Need-columns-holds Inv-columns μ-columns Inv-lines μ-lines
 columns-holds c = (omega arith, omega arith, omega arith, omega arith, c .section-of .ensures, c .before .before .lines .inv .2)
 
--- src/scan.rt:37:5
 lines-less : tie.Need-lines-less Inv-columns μ-columns Inv-lines μ-lines
 lines-less c = omega arith
 
--- src/scan.rt:37:5
 lines-again : tie.Need-lines-again Inv-columns μ-columns Inv-lines μ-lines
 lines-again c = let a = c .before .columns in
     (omega arith, omega arith, a .inv .5 ∙ scan-end _ _ _ _ _ _ _ (c .columns-test .left) ∙ sym (scan-end _ _ _ _ _ _ _ (c .columns-test .left)))
 
--- src/scan.rt:45:38
 shared-slice-read-b : tie.Need-shared-slice-read-b Inv-columns μ-columns Inv-lines μ-lines
 shared-slice-read-b c = omega arith
 
--- src/scan.rt:45:17
 next-state-requires : tie.Need-next-state-requires Inv-columns μ-columns Inv-lines μ-lines
 next-state-requires c κs = search needs
 
--- src/scan.rt:46:13
 add-i : tie.Need-add-i Inv-columns μ-columns Inv-lines μ-lines
 add-i c = omega arith
 
--- src/scan.rt:49:46
 enum-told : tie.Need-enum-told Inv-columns μ-columns Inv-lines μ-lines
 enum-told c = search needs
 
--- src/scan.rt:52:21
 enum-told-2 : tie.Need-enum-told-2 Inv-columns μ-columns Inv-lines μ-lines
 enum-told-2 c = search needs
 
--- src/scan.rt:52:21
 add-line : tie.Need-add-line Inv-columns μ-columns Inv-lines μ-lines
 add-line c = omega arith
 
--- src/scan.rt:37:5
 lines-less-2 : tie.Need-lines-less-2 Inv-columns μ-columns Inv-lines μ-lines
 lines-less-2 c = omega arith
 
--- src/scan.rt:37:5
 lines-again-2 : tie.Need-lines-again-2 Inv-columns μ-columns Inv-lines μ-lines
 lines-again-2 c = let a = c .before .before .before .before .before .columns in
     (omega arith, omega arith, rw (c .enum-told2 .given .1) at (goes _ _ _ _ _ _ _ _ _ _ (c .before .before .before .before .columns-test .taken) (a .inv .4) (c .before .before .next-state .ensures) (a .inv .5)))
 
--- src/scan.rt:57:21
 add-column : tie.Need-add-column Inv-columns μ-columns Inv-lines μ-lines
 add-column c = omega arith
 
--- src/scan.rt:44:9
 columns-less : tie.Need-columns-less Inv-columns μ-columns Inv-lines μ-lines
 columns-less c = omega arith
 
--- src/scan.rt:44:9
 columns-again : tie.Need-columns-again Inv-columns μ-columns Inv-lines μ-lines
 columns-again c =
     let g = c .before .before .before .before .before .before .before .before .before .args in
@@ -103,11 +87,9 @@ columns-again c =
           ∙ leads (a .line) (a .column) _ (c .before .next-state .result) (misshapen-from (g .f) (g .u) (drop (a .i + 1) (g .s .now))) (c .match .keys3),
     )
 
--- src/scan.rt:32:1
 returns : tie.Need-returns Inv-columns μ-columns Inv-lines μ-lines
 returns c = sym (c .before .lines .inv .2 ∙ scan-end _ _ _ _ _ _ _ (c .if1 .taken))
 
--- src/scan.rt:32:1
 returns-2 : tie.Need-returns-2 Inv-columns μ-columns Inv-lines μ-lines
 returns-2 c = let a = c .before .before .before .before .before .columns in
     sym (rw (c .enum-told .given .1) at (goes _ _ _ _ _ _ _ _ _ _ (c .before .before .before .before .columns-test .taken) (a .inv .4) (c .before .before .next-state .ensures) (a .inv .5)))

@@ -5,15 +5,12 @@ use Rattle.shape.proofs.scan.section_of.Tie as tie
 use Rattle.shape.proofs.scan.section_of.Reads as reads
 use Rattle.shape.proofs.scan.section_of.Lts as lts
 
--- src/scan.rt:24:9
 returns : tie.Need-returns
 returns c = simp (lt-ltb _ _ (c .if1 .taken))
 
--- src/scan.rt:27:9
 returns-2 : tie.Need-returns-2
 returns-2 c = simp (le-ltb _ _ (c .before .if1 .left), lt-ltb _ _ (c .if2 .taken))
 
--- src/scan.rt:20:1
 returns-3 : tie.Need-returns-3
 returns-3 c = simp (le-ltb _ _ (c .before .if1 .left), le-ltb _ _ (c .if2 .left))
 

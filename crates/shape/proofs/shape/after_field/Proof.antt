@@ -6,23 +6,18 @@ use Rattle.shape.proofs.shape.after_field.Tie as tie
 use Rattle.shape.proofs.shape.after_field.Reads as reads
 use Rattle.shape.proofs.shape.after_field.Lts as lts
 
--- src/shape.rt:70:13
 returns : tie.Need-returns
 returns c = simp (eq-eqb _ _ (c .before .if1 .taken), eq-eqb _ _ (c .if2 .taken))
 
--- src/shape.rt:72:9
 returns-2 : tie.Need-returns-2
 returns-2 c = simp (eq-eqb _ _ (c .before .if1 .taken), ne-eqb _ _ (c .if2 .left))
 
--- src/shape.rt:75:29
 sub-t5 : tie.Need-sub-t5
 sub-t5 c = search needs
 
--- src/shape.rt:75:9
 returns-3 : tie.Need-returns-3
 returns-3 c = simp (ne-eqb _ _ (c .before .if1 .left), eq-eqb _ _ (c .if3 .taken))
 
--- src/shape.rt:65:1
 returns-4 : tie.Need-returns-4
 returns-4 c = simp (ne-eqb _ _ (c .before .if1 .left), ne-eqb _ _ (c .if3 .left))
 

@@ -7,27 +7,21 @@ use Rattle.shape.proofs.shape.in_number.Reads as reads
 use Rattle.shape.proofs.shape.in_number.Lts as lts
 use Rattle.shape.proofs.shape.after_field.Reads as after-field-reads
 
--- src/shape.rt:85:9
 after-field-requires : tie.Need-after-field-requires
 after-field-requires c κs = search needs
 
--- src/shape.rt:85:9
 returns : tie.Need-returns
 returns c = simp (lt-ltb _ _ (c .before .if1 .taken)) (c .after-field .ensures)
 
--- src/shape.rt:88:9
 returns-2 : tie.Need-returns-2
 returns-2 c = simp (le-ltb _ _ (c .before .if1 .left), lt-ltb _ _ (c .if2 .taken))
 
--- src/shape.rt:91:9
 returns-3 : tie.Need-returns-3
 returns-3 c = simp (le-ltb _ _ (c .before .before .if1 .left), le-ltb _ _ (c .before .if2 .left), eq-eqb _ _ (c .if3 .taken))
 
--- src/shape.rt:93:21
 sub-t5 : tie.Need-sub-t5
 sub-t5 c = search needs
 
--- src/shape.rt:81:1
 returns-4 : tie.Need-returns-4
 returns-4 c = simp (le-ltb _ _ (c .before .before .if1 .left), le-ltb _ _ (c .before .if2 .left), ne-eqb _ _ (c .if3 .left))
 

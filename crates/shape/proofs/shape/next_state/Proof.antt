@@ -9,75 +9,57 @@ use Rattle.shape.proofs.shape.begin_line.Reads as begin-line-reads
 use Rattle.shape.proofs.shape.in_number.Reads as in-number-reads
 use Rattle.shape.proofs.shape.after_field.Reads as after-field-reads
 
--- src/shape.rt:101:25
 enum-told : tie.Need-enum-told
 enum-told c = search needs
 
--- src/shape.rt:101:25
 begin-line-requires : tie.Need-begin-line-requires
 begin-line-requires c κs = search needs
 
--- src/shape.rt:102:20
 enum-known-st : tie.Need-enum-known-st
 enum-known-st c = search needs
 
--- src/shape.rt:102:26
 after-field-requires : tie.Need-after-field-requires
 after-field-requires c κs = search needs
 
--- src/shape.rt:103:22
 enum-known-st-2 : tie.Need-enum-known-st-2
 enum-known-st-2 c = search needs
 
--- src/shape.rt:105:17
 returns : tie.Need-returns
 returns c = simp (c .before .before .st2 .given .1, eq-eqb _ _ (c .if1 .taken))
 
--- src/shape.rt:108:17
 returns-2 : tie.Need-returns-2
 returns-2 c = simp (c .before .before .before .st2 .given .1, ne-eqb _ _ (c .before .if1 .left), lt-ltb _ _ (c .if2 .taken))
 
--- src/shape.rt:111:17
 returns-3 : tie.Need-returns-3
 returns-3 c = simp (c .before .before .before .before .st2 .given .1, ne-eqb _ _ (c .before .before .if1 .left), le-ltb _ _ (c .before .if2 .left), lt-ltb _ _ (c .if3 .taken))
 
--- src/shape.rt:115:22
 enum-known-st-3 : tie.Need-enum-known-st-3
 enum-known-st-3 c = search needs
 
--- src/shape.rt:115:31
 in-number-requires : tie.Need-in-number-requires
 in-number-requires c κs = search needs
 
--- src/shape.rt:116:24
 enum-told-2 : tie.Need-enum-told-2
 enum-told-2 c = search needs
 
--- src/shape.rt:117:24
 enum-told-3 : tie.Need-enum-told-3
 enum-told-3 c = search needs
 
--- src/shape.rt:97:1
 returns-4 : tie.Need-returns-4
 returns-4 c = simp (c .before .enum-told .given .1) (c .begin-line .ensures)
 
--- src/shape.rt:97:1
 returns-5 : tie.Need-returns-5
 returns-5 c = simp (c .before .before .st .given .1) (c .after-field .ensures)
 
--- src/shape.rt:97:1
 returns-6 : tie.Need-returns-6
 returns-6 c = simp (c .before .before .before .before .st2 .given .1, ne-eqb _ _ (c .before .before .if1 .left), le-ltb _ _ (c .before .if2 .left), le-ltb _ _ (c .if3 .left))
 
--- src/shape.rt:97:1
 returns-7 : tie.Need-returns-7
 returns-7 c = simp (c .before .before .st3 .given .1) (c .in-number .ensures)
 
--- src/shape.rt:97:1
 returns-8 : tie.Need-returns-8
 returns-8 c = search needs
 
--- src/shape.rt:97:1
 returns-9 : tie.Need-returns-9
 returns-9 c = search needs
 

@@ -19,31 +19,24 @@ Inv-loop s i₀ start₀ last₀ lines₀ i start last lines = (i ≤ length s) 
 abbrev μ-loop : tie.MeasureT-loop
 μ-loop s i₀ start₀ last₀ lines₀ i start last lines = length s - i
 
--- src/trailer.rt:23:5
 loop-holds : tie.Need-loop-holds Inv-loop μ-loop
 loop-holds c = (omega arith, omega arith, omega arith, omega arith, refl)
 
--- src/trailer.rt:24:12
 shared-slice-read-if1 : tie.Need-shared-slice-read-if1 Inv-loop μ-loop
 shared-slice-read-if1 c = omega arith
 
--- src/trailer.rt:26:21
 add-start : tie.Need-add-start Inv-loop μ-loop
 add-start c = omega arith
 
--- src/trailer.rt:27:13
 add-lines : tie.Need-add-lines Inv-loop μ-loop
 add-lines c = omega arith
 
--- src/trailer.rt:29:9
 add-i : tie.Need-add-i Inv-loop μ-loop
 add-i c = omega arith
 
--- src/trailer.rt:23:5
 loop-less : tie.Need-loop-less Inv-loop μ-loop
 loop-less c = omega arith
 
--- src/trailer.rt:23:5
 loop-again : tie.Need-loop-again Inv-loop μ-loop
 loop-again c = let a = c .before .before .before .loop in
     let s = c .before .before .before .before .args .s .now in
@@ -53,7 +46,6 @@ loop-again c = let a = c .before .before .before .loop in
     (λ w. (omega arith, omega arith, omega arith, omega arith, e ∙ rw (ne-eqb _ _ (w .0 .left), w .1, w .2, w .3)))
     (c .if1 .came)
 
--- src/trailer.rt:16:1
 returns : tie.Need-returns Inv-loop μ-loop
 returns c = let a = c .before .loop in
     (sym (a .inv .4 ∙ rw (drop-of-length-le _ (c .loop-test .left))), omega arith)

@@ -7,16 +7,13 @@ use Rattle.so_far.proofs.so_far.take.Lts as lts
 use borrow.Author.Tests.{lt-ltb, le-ltb}
 use Rattle.so_far.specs.State.{taken}
 
--- src/so_far.rt:45:9
 returns : tie.Need-returns
 unfolding taken
 returns c = rw (lt-ltb _ _ (c .if1 .taken))
 
--- src/so_far.rt:48:15
 add-t5 : tie.Need-add-t5
 add-t5 c = search needs
 
--- src/so_far.rt:40:1
 returns-2 : tie.Need-returns-2
 unfolding taken
 returns-2 c = rw (le-ltb _ _ (c .if1 .left))

@@ -6,16 +6,13 @@ use Rattle.so_far.proofs.so_far.wanted.Reads as reads
 use Rattle.so_far.proofs.so_far.wanted.Lts as lts
 use Rattle.so_far.specs.State.{wanted}
 
--- src/so_far.rt:33:9
 add-result : tie.Need-add-result
 add-result c = search needs
 
--- src/so_far.rt:28:1
 returns : tie.Need-returns
 unfolding wanted
 returns c = rw (c .before .if1 .taken)
 
--- src/so_far.rt:28:1
 returns-2 : tie.Need-returns-2
 unfolding wanted
 returns-2 c = rw (c .if1 .left)

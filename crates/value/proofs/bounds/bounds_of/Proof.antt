@@ -8,19 +8,15 @@ use Rattle.value.proofs.bounds.bounds_of.Lts as lts
 use Rattle.value.proofs.bounds.best_of_all.Reads as best-of-all-reads
 use Rattle.value.proofs.bounds.whole_limit.Reads as whole-limit-reads
 
--- src/bounds.rt:88:13
 best-of-all-requires : tie.Need-best-of-all-requires
 best-of-all-requires c κs = search needs
 
--- src/bounds.rt:97:9
 returns : tie.Need-returns
 returns c = bounds-at-nought _ _ _ _ _ _ _ _ (c .before .if1 .taken) _ (c .best-of-all .ensures .0) (c .best-of-all .ensures .1)
 
--- src/bounds.rt:102:9
 whole-limit-requires : tie.Need-whole-limit-requires
 whole-limit-requires c κs = search needs
 
--- src/bounds.rt:74:1
 returns-2 : tie.Need-returns-2
 returns-2 c = bounds-within _ _ _ _ _ _ _ _ _ (c .whole-limit .ensures)
 

@@ -9,19 +9,15 @@ use Rattle.forced.proofs.force.Reads as force-reads
 use Rattle.half.proofs.half_decided.Reads as half-decided-reads
 use Rattle.keeping.proofs.nothing_given.Reads as nothing-given-reads
 
--- src/bounds.rt:67:9
 nothing-given-requires : tie.Need-nothing-given-requires
 nothing-given-requires c κs = search needs
 
--- src/bounds.rt:68:9
 force-requires : tie.Need-force-requires
 force-requires c κs = c .before .before .before .before .before .pre .ends
 
--- src/bounds.rt:69:9
 half-decided-requires : tie.Need-half-decided-requires
 half-decided-requires c κs = c .before .before .before .before .before .before .pre .weights
 
--- src/bounds.rt:55:1
 returns : tie.Need-returns
 returns c = limit-is-above _ _ _ _ _ _ _ _ (c .before .before .nothing-given .ensures) (c .before .before .before .before .before .before .before .pre) _ (c .before .force .ensures) _ (c .half-decided .ensures)
 

@@ -19,31 +19,24 @@ Inv-loop out₀ at letters befores afters n i₀ p₀ out i p = (i ≤ n) × ((l
 abbrev μ-loop : tie.MeasureT-loop
 μ-loop out₀ at letters befores afters n i₀ p₀ out i p = n - i
 
--- src/writing.rt:115:5
 loop-holds : tie.Need-loop-holds Inv-loop μ-loop
 loop-holds c = (omega arith, (refl, (rw less-none, rw less-none)))
 
--- src/writing.rt:116:17
 shared-slice-read-c : tie.Need-shared-slice-read-c Inv-loop μ-loop
 shared-slice-read-c c = omega arith
 
--- src/writing.rt:117:17
 shared-slice-read-a : tie.Need-shared-slice-read-a Inv-loop μ-loop
 shared-slice-read-a c = omega arith
 
--- src/writing.rt:117:17
 cast-a : tie.Need-cast-a Inv-loop μ-loop
 cast-a c = omega (arith, c .shared-slice-known5 .given (c .before .before .before .loop .i))
 
--- src/writing.rt:118:17
 shared-slice-read-b : tie.Need-shared-slice-read-b Inv-loop μ-loop
 shared-slice-read-b c = omega arith
 
--- src/writing.rt:118:17
 cast-b : tie.Need-cast-b Inv-loop μ-loop
 cast-b c = omega (arith, c .shared-slice-known6 .given (c .before .before .before .before .loop .i))
 
--- src/writing.rt:119:9
 put-two-requires : tie.Need-put-two-requires Inv-loop μ-loop
 put-two-requires c κs = let g = c .before .before .before .before .before .before .before .before .before .before .args in
     let a = c .before .before .before .before .before .loop in
@@ -54,15 +47,12 @@ put-two-requires c κs = let g = c .before .before .before .before .before .befo
     let l = first-length line rest whole e in
     omega (arith, l, a .inv, c .before .before .before .before .before .before .before .before .before .before .pre)
 
--- src/writing.rt:120:9
 add-i : tie.Need-add-i Inv-loop μ-loop
 add-i c = omega arith
 
--- src/writing.rt:115:5
 loop-less : tie.Need-loop-less Inv-loop μ-loop
 loop-less c = omega arith
 
--- src/writing.rt:115:5
 loop-again : tie.Need-loop-again Inv-loop μ-loop
 loop-again c = let g = c .before .before .before .before .before .before .before .before .before .before .before .before .before .args in
     let a = c .before .before .before .before .before .before .before .before .loop in
@@ -78,11 +68,9 @@ loop-again c = let g = c .before .before .before .before .before .before .before
       ),
     )
 
--- src/writing.rt:101:1
 same-length : tie.Need-same-length Inv-loop μ-loop
 same-length c = c .before .loop .inv .1 .0
 
--- src/writing.rt:101:1
 returns : tie.Need-returns Inv-loop μ-loop
 returns c = let g = c .before .before .before .before .before .before .args in
     let a = c .before .loop in

@@ -20,39 +20,30 @@ Inv-loop out₀ at firsts seconds weights n i₀ p₀ out i p = (i ≤ n) × ((l
 abbrev μ-loop : tie.MeasureT-loop
 μ-loop out₀ at firsts seconds weights n i₀ p₀ out i p = n - i
 
--- src/writing.rt:157:5
 loop-holds : tie.Need-loop-holds Inv-loop μ-loop
 loop-holds c = (omega arith, (refl, (rw less-none, rw less-none)))
 
--- src/writing.rt:158:17
 shared-slice-read-a : tie.Need-shared-slice-read-a Inv-loop μ-loop
 shared-slice-read-a c = omega arith
 
--- src/writing.rt:158:17
 cast-a : tie.Need-cast-a Inv-loop μ-loop
 cast-a c = omega (arith, c .shared-slice-known4 .given (c .before .before .loop .i))
 
--- src/writing.rt:159:17
 shared-slice-read-b : tie.Need-shared-slice-read-b Inv-loop μ-loop
 shared-slice-read-b c = omega arith
 
--- src/writing.rt:159:17
 cast-b : tie.Need-cast-b Inv-loop μ-loop
 cast-b c = omega (arith, c .shared-slice-known5 .given (c .before .before .before .loop .i))
 
--- src/writing.rt:160:17
 mul-w : tie.Need-mul-w Inv-loop μ-loop
 mul-w c = search needs
 
--- src/writing.rt:160:17
 shared-slice-read-w : tie.Need-shared-slice-read-w Inv-loop μ-loop
 shared-slice-read-w c = omega arith
 
--- src/writing.rt:160:17
 cast-w : tie.Need-cast-w Inv-loop μ-loop
 cast-w c = omega (arith, c .shared-slice-known6 .given (c .before .before .before .before .loop .i))
 
--- src/writing.rt:161:9
 put-three-requires : tie.Need-put-three-requires Inv-loop μ-loop
 put-three-requires c κs = let g = c .before .before .before .before .before .before .before .before .before .before .args in
     let a = c .before .before .before .before .before .loop in
@@ -63,15 +54,12 @@ put-three-requires c κs = let g = c .before .before .before .before .before .be
     let l = first-length line rest whole e in
     omega (arith, l, a .inv, c .before .before .before .before .before .before .before .before .before .before .pre)
 
--- src/writing.rt:162:9
 add-i : tie.Need-add-i Inv-loop μ-loop
 add-i c = omega arith
 
--- src/writing.rt:157:5
 loop-less : tie.Need-loop-less Inv-loop μ-loop
 loop-less c = omega arith
 
--- src/writing.rt:157:5
 loop-again : tie.Need-loop-again Inv-loop μ-loop
 loop-again c = let g = c .before .before .before .before .before .before .before .before .before .before .before .before .before .args in
     let a = c .before .before .before .before .before .before .before .before .loop in
@@ -87,11 +75,9 @@ loop-again c = let g = c .before .before .before .before .before .before .before
       ),
     )
 
--- src/writing.rt:143:1
 same-length : tie.Need-same-length Inv-loop μ-loop
 same-length c = c .before .loop .inv .1 .0
 
--- src/writing.rt:143:1
 returns : tie.Need-returns Inv-loop μ-loop
 returns c = let g = c .before .before .before .before .before .before .args in
     let a = c .before .loop in

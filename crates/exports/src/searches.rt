@@ -1,23 +1,11 @@
 // The search of a record at a tolerance.
 use decisions::put_decisions;
 use fields::record_in;
+use figures::put_totals;
 use wire::is_accepted;
 use wire::lent_both;
 use wire::pack_answer;
-ghost use mathlib.Core.List.{[], _∷_};
-ghost use mathlib.Core.Path.{_≡_};
-ghost use Prim.Native.Nat.{_≤_};
-ghost use lib.ListN.{length};
-ghost use Rattle.print.specs.Put.{put};
 ghost use Rattle.exports.specs.Search.{SearchShown};
-
-fn put_totals(value: u32, ceiling: u32, out: &mut [u32])
-    requires { ⌜ 2 ≤ length (now out) ⌝ }
-    ensures { λ r. ⌜ now (out .exit) ≡ put 0 (value ∷ ceiling ∷ []) (now (out .entry)) ⌝ }
-{
-    out[0] = value;
-    out[1] = ceiling;
-}
 
 // Writes the decisions of a relaxation within the tolerance of the best, its value and a ceiling.
 #[no_mangle]

@@ -1,6 +1,5 @@
 //! The proved program against the twin: standard input in, the same report out. What is reported
-//! is compared at length through the library (`rust/wharftoken`); here it is the program's own
-//! reading and writing.
+//! is compared at length through the library; here it is the program's own reading and writing.
 //!
 //! `.ci/run` builds the program first. A difference shows its seed and its text.
 

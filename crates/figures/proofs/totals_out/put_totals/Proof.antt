@@ -1,8 +1,8 @@
 -- Two stores.
 use borrow.Author.Needs.{needs}
 use Rattle.entries.specs.laws.Put.{put-two}
-use Rattle.exports.proofs.searches.put_totals.Statement.{statement}
-use Rattle.exports.proofs.searches.put_totals.Tie as tie
+use Rattle.figures.proofs.totals_out.put_totals.Statement.{statement}
+use Rattle.figures.proofs.totals_out.put_totals.Tie as tie
 
 slice-write-out : tie.Need-slice-write-out
 slice-write-out c = search needs

@@ -1,3 +1,2 @@
 pub mod RoundTrip
-pub mod SectionLaws
 pub mod WriteLaws

@@ -9,10 +9,10 @@ use Rattle.shape.specs.LineText.{line-text}
 use Rattle.sheet.specs.Text.{options-text}
 use Rattle.print.specs.Put.{put}
 use Rattle.print.proofs.PutLaws.{put-length, put-none}
-use Rattle.size.proofs.SectionLaws.{less-none, first-length, options-first, options-none}
-use Rattle.writer.proofs.SectionLaws.{put-step}
-use Rattle.writer.proofs.writing.put_options.Statement.{statement}
-use Rattle.writer.proofs.writing.put_options.Tie as tie
+use Rattle.text.proofs.SectionLaws.{less-none, first-length, options-first, options-none}
+use Rattle.text.proofs.PrintLaws.{put-step}
+use Rattle.text.proofs.put.put_options.Statement.{statement}
+use Rattle.text.proofs.put.put_options.Tie as tie
 
 abbrev Inv-loop : tie.InvT-loop
 Inv-loop out₀ at numbers weights n i₀ p₀ out i p = (i ≤ n) × ((length out ≡ length out₀) × ((put at (options-text n 0 numbers weights) out₀ ≡ put p (options-text (n - i) i numbers weights) out) × (at + length (options-text n 0 numbers weights) ≡ p + length (options-text (n - i) i numbers weights))))

@@ -8,10 +8,10 @@ use Rattle.shape.specs.LineText.{line-text}
 use Rattle.sheet.specs.Text.{catalogue-text}
 use Rattle.print.specs.Put.{put}
 use Rattle.print.proofs.PutLaws.{put-length, put-none}
-use Rattle.size.proofs.SectionLaws.{less-none, first-length, catalogue-first, catalogue-none}
-use Rattle.writer.proofs.SectionLaws.{put-step}
-use Rattle.writer.proofs.writing.put_catalogue.Statement.{statement}
-use Rattle.writer.proofs.writing.put_catalogue.Tie as tie
+use Rattle.text.proofs.SectionLaws.{less-none, first-length, catalogue-first, catalogue-none}
+use Rattle.text.proofs.PrintLaws.{put-step}
+use Rattle.text.proofs.put.put_catalogue.Statement.{statement}
+use Rattle.text.proofs.put.put_catalogue.Tie as tie
 
 abbrev Inv-loop : tie.InvT-loop
 Inv-loop out₀ at letters befores afters n i₀ p₀ out i p = (i ≤ n) × ((length out ≡ length out₀) × ((put at (catalogue-text n 0 letters befores afters) out₀ ≡ put p (catalogue-text (n - i) i letters befores afters) out) × (at + length (catalogue-text n 0 letters befores afters) ≡ p + length (catalogue-text (n - i) i letters befores afters))))

@@ -5,9 +5,9 @@ use native.Mathlib.Omega.{arith}
 use lib.ListN.{length}
 use mathlib.Core.List.{[]}
 use Rattle.sheet.proofs.PartLaws.{text-length, trailer-length}
-use Rattle.size.proofs.SectionLaws.{any-letter}
-use Rattle.size.proofs.size.text_size.Statement.{statement}
-use Rattle.size.proofs.size.text_size.Tie as tie
+use Rattle.text.proofs.SectionLaws.{any-letter}
+use Rattle.text.proofs.size.text_size.Statement.{statement}
+use Rattle.text.proofs.size.text_size.Tie as tie
 
 slice-aggregate-catalogue-size : tie.Need-slice-aggregate-catalogue-size
 slice-aggregate-catalogue-size c = search needs

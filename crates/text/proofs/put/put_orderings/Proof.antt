@@ -9,10 +9,10 @@ use Rattle.shape.specs.LineText.{line-text}
 use Rattle.sheet.specs.Text.{orderings-text}
 use Rattle.print.specs.Put.{put}
 use Rattle.print.proofs.PutLaws.{put-length, put-none}
-use Rattle.size.proofs.SectionLaws.{less-none, first-length, orderings-first, orderings-none}
-use Rattle.writer.proofs.SectionLaws.{put-step}
-use Rattle.writer.proofs.writing.put_orderings.Statement.{statement}
-use Rattle.writer.proofs.writing.put_orderings.Tie as tie
+use Rattle.text.proofs.SectionLaws.{less-none, first-length, orderings-first, orderings-none}
+use Rattle.text.proofs.PrintLaws.{put-step}
+use Rattle.text.proofs.put.put_orderings.Statement.{statement}
+use Rattle.text.proofs.put.put_orderings.Tie as tie
 
 abbrev Inv-loop : tie.InvT-loop
 Inv-loop out₀ at firsts seconds weights n i₀ p₀ out i p = (i ≤ n) × ((length out ≡ length out₀) × ((put at (orderings-text n 0 firsts seconds weights) out₀ ≡ put p (orderings-text (n - i) i firsts seconds weights) out) × (at + length (orderings-text n 0 firsts seconds weights) ≡ p + length (orderings-text (n - i) i firsts seconds weights))))

@@ -4,10 +4,10 @@ use mathlib.Core.Path.{_≡_, ap, _∙_}
 use native.Mathlib.Omega.{arith}
 use lib.ListN.{length}
 use Rattle.sheet.proofs.PartLaws.{text-length}
-use Rattle.writer.proofs.SectionLaws.{text-put}
+use Rattle.text.proofs.PrintLaws.{text-put}
 use Rattle.print.proofs.PutLaws.{put-length}
-use Rattle.writer.proofs.writing.put_text.Statement.{statement}
-use Rattle.writer.proofs.writing.put_text.Tie as tie
+use Rattle.text.proofs.put.put_text.Statement.{statement}
+use Rattle.text.proofs.put.put_text.Tie as tie
 
 slice-aggregate-put-catalogue : tie.Need-slice-aggregate-put-catalogue
 slice-aggregate-put-catalogue c = search needs

@@ -5,9 +5,9 @@ use mathlib.Core.Path.{_≡_, ap}
 use native.Mathlib.Omega.{arith}
 use lib.ListN.{length}
 use Rattle.sheet.specs.Text.{orderings-text}
-use Rattle.size.proofs.SectionLaws.{less-none, orderings-length, orderings-none}
-use Rattle.size.proofs.size.orderings_size.Statement.{statement}
-use Rattle.size.proofs.size.orderings_size.Tie as tie
+use Rattle.text.proofs.SectionLaws.{less-none, orderings-length, orderings-none}
+use Rattle.text.proofs.size.orderings_size.Statement.{statement}
+use Rattle.text.proofs.size.orderings_size.Tie as tie
 
 abbrev Inv-loop : tie.InvT-loop
 Inv-loop firsts seconds ordering-weights n i₀ size₀ i size = (i ≤ n) × ((size ≤ 65 * i) × (length (orderings-text n 0 firsts seconds ordering-weights) ≡ size + length (orderings-text (n - i) i firsts seconds ordering-weights)))

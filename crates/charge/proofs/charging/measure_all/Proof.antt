@@ -3,7 +3,7 @@ use mathlib.Core.Logic.{⊎-elim}
 use Prim.Native.Nat.{_≤_, _-_}
 use native.Mathlib.Omega.{arith}
 use native.Mathlib.Nat.{le-antisymm}
-use Rattle.charge.specs.Charges.{Measured}
+use Rattle.residual.specs.TakenAll.{Measured}
 use Rattle.charge.specs.laws.Charges.{measured-none, measured-more, measured-at}
 use Rattle.charge.proofs.charging.measure_all.Statement.{statement}
 use Rattle.charge.proofs.charging.measure_all.Tie as tie

@@ -3,11 +3,11 @@ use mathlib.Core.Logic.{⊎-elim}
 use Prim.Native.Nat.{_≤_, _-_}
 use native.Mathlib.Omega.{arith}
 use native.Mathlib.Nat.{le-antisymm}
-use Rattle.charge.specs.Charges.{Gave}
+use Rattle.residual.specs.TakenAll.{Gave}
 use Rattle.residual.specs.laws.Taken.{left-lower}
-use Rattle.charge.specs.laws.Charges.{gave-none, gave-already, gave-more, gave-at, gave-as}
-use Rattle.charge.proofs.charging.take_all.Statement.{statement}
-use Rattle.charge.proofs.charging.take_all.Tie as tie
+use Rattle.residual.specs.laws.TakenAll.{gave-none, gave-already, gave-more, gave-at, gave-as}
+use Rattle.residual.proofs.taking_all.take_all.Statement.{statement}
+use Rattle.residual.proofs.taking_all.take_all.Tie as tie
 
 abbrev Inv-loop : tie.InvT-loop
 Inv-loop first second n m options₀ orderings₀ chain len e was q₀ options orderings q = (q ≤ len) × Gave first second n m chain e q options₀ orderings₀ options orderings

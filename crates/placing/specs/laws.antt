@@ -1,4 +1,3 @@
-pub mod Edges
 pub mod Next
 pub mod Slots
 pub mod Placed

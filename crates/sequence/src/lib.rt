@@ -1,5 +1,6 @@
 // The sequence of a chosen relaxation.
 mod answer;
+mod edges;
 mod whole;
 
 pub use answer::Sequenced;

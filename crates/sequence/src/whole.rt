@@ -1,8 +1,8 @@
 // The sequence of a full decision, from what is given.
+use crate::edges::between_kept;
+use crate::edges::has_cycle;
+use crate::edges::lacks_option;
 use given::Given;
-use placing::between_kept;
-use placing::has_cycle;
-use placing::lacks_option;
 use placing::place_all;
 use sheet::Number;
 ghost use mathlib.Core.Path.{_≡_};

@@ -19,8 +19,8 @@ use Rattle.graph.specs.Shown.{counted, Shows}
 use Rattle.rules.specs.Results.{placed, acyclic, lacks-an-option}
 use Rattle.rules.specs.Sequence.{precedes, kept-slots}
 use Rattle.rules.specs.Relaxation.{KeptBySlot}
-use Rattle.placing.specs.Edges.{BetweenKept, lacks}
 use Rattle.placing.specs.Next.{number-at, numbers-placed, number, written}
+use Rattle.sequence.specs.Edges.{BetweenKept, lacks}
 use Rattle.sequence.specs.Padded.{places-of}
 use Rattle.sequence.specs.laws.Padded.{written-padded}
 use Rattle.sequence.specs.Sequenced.{is-consistent-as, sequence-as, not-consistent, placed-as, Keeps, PlacedBy}

@@ -6,9 +6,9 @@ use native.Mathlib.Omega.{arith}
 use borrow.Author.Needs.{needs}
 use Rattle.rules.specs.Slots.{some-below}
 use Rattle.rows.specs.laws.Slots.{some-step, some-end}
-use Rattle.placing.specs.Edges.{lacks}
-use Rattle.placing.proofs.edges.lacks_option.Statement.{statement}
-use Rattle.placing.proofs.edges.lacks_option.Tie as tie
+use Rattle.sequence.specs.Edges.{lacks}
+use Rattle.sequence.proofs.edges.lacks_option.Statement.{statement}
+use Rattle.sequence.proofs.edges.lacks_option.Tie as tie
 
 abbrev Inv-loop : tie.InvT-loop
 Inv-loop kept kept-orderings first second n m r₀ u₀ r u = (u ≤ m) × (r ≡ some-below u (lacks kept kept-orderings first second))

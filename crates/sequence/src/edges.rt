@@ -4,7 +4,7 @@ ghost use Prim.Native.Nat.{_≤_};
 ghost use Rattle.rules.specs.Slots.{some-below};
 ghost use Rattle.rows.specs.Sets.{cell};
 ghost use Rattle.graph.specs.Graph.{EndsAreSlots};
-ghost use Rattle.placing.specs.Edges.{BetweenKept, lacks};
+ghost use Rattle.sequence.specs.Edges.{BetweenKept, lacks};
 
 // The table without the rows and columns of options that are not kept.
 pub fn between_kept(t: [u32; 32], kept: u32, n: usize) -> [u32; 32]

@@ -3,10 +3,10 @@ use Prim.Native.Nat.{_-_, _≤_}
 use native.Mathlib.Nat.{le-antisymm}
 use native.Mathlib.Omega.{arith}
 use borrow.Author.Needs.{needs}
-use Rattle.placing.specs.Edges.{BetweenKept}
-use Rattle.placing.specs.laws.Edges.{between-none, between-step, between-end}
-use Rattle.placing.proofs.edges.between_kept.Statement.{statement}
-use Rattle.placing.proofs.edges.between_kept.Tie as tie
+use Rattle.sequence.specs.Edges.{BetweenKept}
+use Rattle.sequence.specs.laws.Edges.{between-none, between-step, between-end}
+use Rattle.sequence.proofs.edges.between_kept.Statement.{statement}
+use Rattle.sequence.proofs.edges.between_kept.Tie as tie
 
 abbrev Inv-loop : tie.InvT-loop
 Inv-loop kept n t k₀ i₀ k i = (i ≤ n) × BetweenKept t kept i k

@@ -7,8 +7,8 @@ use borrow.Author.Needs.{needs}
 use Rattle.rules.specs.Slots.{some-below}
 use Rattle.rows.specs.Sets.{cell}
 use Rattle.rows.specs.laws.Slots.{some-step, some-end}
-use Rattle.placing.proofs.edges.has_cycle.Statement.{statement}
-use Rattle.placing.proofs.edges.has_cycle.Tie as tie
+use Rattle.sequence.proofs.edges.has_cycle.Statement.{statement}
+use Rattle.sequence.proofs.edges.has_cycle.Tie as tie
 
 abbrev Inv-loop : tie.InvT-loop
 Inv-loop n t r₀ i₀ r i = (i ≤ n) × (r ≡ some-below i (λ j. cell t j j))

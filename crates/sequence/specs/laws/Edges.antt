@@ -10,7 +10,7 @@ use lib.Seq.{getD-set-same, getD-set-other}
 use Rattle.rows.specs.Bits.{has, met, joined-if}
 use Rattle.rows.specs.Sets.{cell}
 use Rattle.rows.specs.laws.Bits.{has-none, has-joined-if, has-met}
-use Rattle.placing.specs.Edges.{BetweenKept}
+use Rattle.sequence.specs.Edges.{BetweenKept}
 
 pub between-none : (t : List ℕ) (kept : ℕ) → BetweenKept t kept 0 (replicate 32 0)
 between-none t kept = record { size = length-replicate {A = ℕ} 32 0; at = λ p q l. absurd (omega arith) }

@@ -1,11 +1,8 @@
-// A half-decided sheet after forcing: what is open, what is kept in weight and what can still be had, and the decisions as a list.
+// A half-decided sheet after forcing: what is open, what is kept in weight and what can still be had.
 // For the crates above: counts and arrays handed in must be those of a record.
-mod decided;
 mod opened;
 mod weights;
 
-pub use decided::options_decided;
-pub use decided::orderings_decided;
 pub use opened::Half;
 pub use opened::half_decided;
 pub use opened::open_options;

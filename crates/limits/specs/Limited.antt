@@ -14,7 +14,7 @@ use Rattle.graph.specs.Shown.{counted, Shows}
 use Rattle.rules.specs.Results.{option-limit, ordering-limit}
 use Rattle.half.specs.Weights.{Weighs}
 use Rattle.cells.specs.Cells.{no-limit, shown-limit}
-use Rattle.half.specs.Filled.{filled}
+use Rattle.given.specs.Filled.{filled}
 use Rattle.given.specs.declared.sets.Given.{Given}
 use Rattle.limits.specs.declared.whole.Limited.{Limited}
 

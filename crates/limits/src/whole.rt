@@ -13,7 +13,7 @@ ghost use Rattle.graph.specs.Graph.{EndsAreSlots};
 ghost use Rattle.half.specs.Weights.{HasWeights};
 ghost use Rattle.half.specs.Half.{OpenFits};
 ghost use Rattle.cells.specs.Cells.{no-limit, option-limit-in, ordering-limit-in};
-ghost use Rattle.half.specs.Filled.{filled};
+ghost use Rattle.given.specs.Filled.{filled};
 ghost use Rattle.limits.specs.Limited.{contradictory, LimitedBy};
 
 // The whole answer: forced decisions, and what the values lie between.
@@ -114,8 +114,8 @@ pub fn limits_of<'a>(
         return contradictory();
     }
     let h = half::half_decided(f, weights, ordering_weights, n, m);
-    let o = half::options_decided(f.kept, f.dropped, n);
-    let u = half::orderings_decided(f.kept_orderings, f.dropped_orderings, m);
+    let o = given::options_decided(f.kept, f.dropped, n);
+    let u = given::orderings_decided(f.kept_orderings, f.dropped_orderings, m);
     let e = Decisions {
         options: o,
         orderings: u,

@@ -10,7 +10,7 @@ use Rattle.rules.specs.Best as R
 use Rattle.rules.specs.Best.{AnswerTo}
 use Rattle.rows.specs.Bits.{has}
 use Rattle.given.specs.Given.{choice-of, undecided}
-use Rattle.half.specs.Filled.{filled}
+use Rattle.given.specs.Filled.{filled}
 use Rattle.sheet.specs.Decisions.{all-open}
 use Rattle.sheet.specs.IsRecorded.{is-recorded}
 use Rattle.sheet.specs.Limits.{largest-value}

@@ -45,8 +45,8 @@ pub fn accepted(f: Found, n: usize, m: usize) -> Searched
 {
     let rest = half::open_options(f.kept, 0, n);
     let rest_orderings = half::open_orderings(f.kept_orderings, 0, m);
-    let options = half::options_decided(f.kept, rest, n);
-    let orderings = half::orderings_decided(f.kept_orderings, rest_orderings, m);
+    let options = given::options_decided(f.kept, rest, n);
+    let orderings = given::orderings_decided(f.kept_orderings, rest_orderings, m);
     let decisions = Decisions {
         options: options,
         orderings: orderings,

@@ -13,7 +13,7 @@ use Rattle.rules.specs.Forced.{option-dropped, ordering-dropped, contradiction,
 use Rattle.given.specs.Given.{undecided, decided-as, Gives, decided-past, choice-of, decision-list}
 use Rattle.rules.specs.Results.{option-limit, ordering-limit, limits-of}
 use Rattle.cells.specs.Cells.{no-limit, shown-limit}
-use Rattle.half.specs.Filled.{filled}
+use Rattle.given.specs.Filled.{filled}
 use Rattle.limits.specs.Limited.{contradictory, without-contradiction, limited-as, LimitedBy}
 use Rattle.subscription.specs.Shown.{ShownBy}
 use Rattle.given.specs.laws.List.{take-list-of, drop-list-of, gives-list}

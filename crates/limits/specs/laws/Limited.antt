@@ -16,10 +16,10 @@ use Rattle.forced.specs.Forced.{ForcedAs, ForcedBy}
 use Rattle.half.specs.Weights.{Weighs}
 use Rattle.half.specs.Half.{HalfDecidedAs}
 use Rattle.cells.specs.Cells.{no-limit, option-limit-in, ordering-limit-in}
-use Rattle.half.specs.Filled.{filled}
+use Rattle.given.specs.Filled.{filled}
 use Rattle.limits.specs.Limited.{contradictory, limited-as, LimitedBy}
 use Rattle.half.specs.laws.Shown.{K-is, M-less-D-is}
-use Rattle.half.specs.laws.Filled.{filled-same}
+use Rattle.given.specs.laws.Filled.{filled-same}
 use Rattle.cells.specs.laws.Table.{option-limit-is, ordering-limit-is}
 use Rattle.sheet.specs.declared.decision.Choice.{Choice}
 use Rattle.given.specs.declared.sets.Given.{Given}

@@ -6,7 +6,7 @@ use lib.ListN.{replicate, take, drop}
 use Rattle.rules.specs.Slots.{list-of}
 use Rattle.rules.specs.Decisions.{all-open}
 use Rattle.given.specs.Given.{undecided, choice-of}
-use Rattle.half.specs.Filled.{filled}
+use Rattle.given.specs.Filled.{filled}
 use Rattle.limits.specs.Answer.{padded}
 use Rattle.rules.specs.Decisions as R
 

@@ -22,7 +22,7 @@ use Rattle.rules.specs.laws.Decisions.{just-the-kept, just-the-kept-at, length-
 use Rattle.rules.specs.laws.Sequence.{sequence-of-choice-is}
 use Rattle.given.specs.Given.{decided, decided-as, choice-of, undecided, decision-list, some-past, some-open, decided-past, open-within}
 use Rattle.given.specs.laws.List.{length-decision-list}
-use Rattle.half.specs.Filled.{filled}
+use Rattle.given.specs.Filled.{filled}
 use Rattle.search.specs.Search.{chosen, answered}
 use Rattle.sequence.specs.Answer.{sequence-accepted, sequence-answer}
 use Rattle.sequence.specs.Padded.{places-of}

@@ -14,8 +14,8 @@ use Rattle.rows.specs.Sets.{Holds}
 use Rattle.rows.specs.laws.Bits.{has-none}
 use Rattle.rows.specs.laws.Sets.{holds-at}
 use Rattle.given.specs.Given.{choice-of, undecided}
-use Rattle.half.specs.Filled.{filled}
-use Rattle.half.specs.laws.Filled.{filled-same}
+use Rattle.given.specs.Filled.{filled}
+use Rattle.given.specs.laws.Filled.{filled-same}
 use Rattle.sheet.specs.Lines.{lines-of}
 use Rattle.sheet.proofs.LinesLaws.{option-lines, ordering-lines, slot-weight, slot-ordering-weight, recorded-proper}
 use Rattle.subscription.specs.Shown.{ShownBy}

@@ -8,8 +8,8 @@ use Rattle.search.proofs.sheet_search.accepted.Reads as reads
 use Rattle.search.proofs.sheet_search.accepted.Lts as lts
 use Rattle.half.proofs.open_options.Reads as open-options-reads
 use Rattle.half.proofs.open_orderings.Reads as open-orderings-reads
-use Rattle.half.proofs.options_decided.Reads as options-decided-reads
-use Rattle.half.proofs.orderings_decided.Reads as orderings-decided-reads
+use Rattle.given.proofs.options_decided.Reads as options-decided-reads
+use Rattle.given.proofs.orderings_decided.Reads as orderings-decided-reads
 
 open-options-requires : tie.Need-open-options-requires
 open-options-requires c κs = search needs

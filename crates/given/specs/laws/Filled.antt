@@ -6,7 +6,7 @@ use native.Mathlib.Omega.{arith}
 use native.Mathlib.Numerals.{add-one}
 use lib.ListN.{set, replicate}
 use Rattle.rules.specs.Limits.{A}
-use Rattle.half.specs.Filled.{filled}
+use Rattle.given.specs.Filled.{filled}
 
 module _ {A : Type 0} where
   pub filled-none : (k : ℕ) (f : ℕ → A) (z : A) → replicate k z ≡ filled k 0 f z

@@ -5,8 +5,8 @@ ghost use mathlib.Core.Path.{_≡_};
 ghost use Prim.Native.Nat.{_≤_};
 ghost use Rattle.rules.specs.Forced.{decision-of};
 ghost use Rattle.rows.specs.Bits.{has};
 ghost use Rattle.given.specs.Given.{undecided, choice-of};
-ghost use Rattle.half.specs.Filled.{filled};
+ghost use Rattle.given.specs.Filled.{filled};
 
 // An item's decision.
 pub fn decided(kept: bool, dropped: bool) -> Choice

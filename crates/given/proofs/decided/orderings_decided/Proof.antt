@@ -6,11 +6,11 @@ use native.Mathlib.Omega.{arith}
 use borrow.Author.Needs.{needs}
 use Rattle.rules.specs.Forced.{decision-of}
 use Rattle.rows.specs.Bits.{has}
 use Rattle.given.specs.Given.{decided, undecided, choice-of}
-use Rattle.half.specs.Filled.{filled}
-use Rattle.half.specs.laws.Filled.{filled-none, filled-step}
-use Rattle.half.proofs.decided.orderings_decided.Statement.{statement}
-use Rattle.half.proofs.decided.orderings_decided.Tie as tie
+use Rattle.given.specs.Filled.{filled}
+use Rattle.given.specs.laws.Filled.{filled-none, filled-step}
+use Rattle.given.proofs.decided.orderings_decided.Statement.{statement}
+use Rattle.given.proofs.decided.orderings_decided.Tie as tie
 
 abbrev Inv-loop : tie.InvT-loop
 Inv-loop kept dropped m l₀ u₀ l u = (u ≤ m) × (l ≡ filled 64 u (λ j. choice-of (decision-of (has kept j) (has dropped j))) undecided)

@@ -1,5 +1,5 @@
 // A decision list from its bytes.
-use shape::byte_at;
+use pieces::byte_at;
 use sheet::Choice;
 use sheet::Decision;
 use sheet::Decisions;

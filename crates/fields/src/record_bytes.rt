@@ -1,5 +1,5 @@
 // A record from its bytes.
-use shape::byte_at;
+use pieces::byte_at;
 use sheet::Sheet;
 ghost use mathlib.Core.Path.{_≡_};
 ghost use Prim.Native.Nat.{_≤_};

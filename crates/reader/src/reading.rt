@@ -2,12 +2,12 @@
 use lines::Reading;
 use lines::read_lines;
 use lines::refused;
+use pieces::is_trailer;
+use pieces::last_line;
+use pieces::numbers_of;
 use shape::Place;
 use shape::Scanned;
 use shape::first_misshapen;
-use shape::is_trailer;
-use shape::last_line;
-use shape::numbers_of;
 use sheet::Answer;
 use sheet::Refusal;
 use sheet::Sheet;

@@ -9,4 +9,3 @@ pub mod ReadBackLaws
 pub mod ScanTurnLaws
 pub mod SplitLaws
 pub mod TextLaws
-pub mod TurnLaws

@@ -16,9 +16,9 @@ use Rattle.lines.proofs.lines.judge_line.Reads as judge-line-reads
 use Rattle.lines.proofs.lines.put_line.Reads as put-line-reads
 use Rattle.lines.proofs.result.answered.Reads as answered-reads
 use Rattle.lines.proofs.result.refused.Reads as refused-reads
-use Rattle.shape.proofs.byte_at.Reads as byte-at-reads
-use Rattle.shape.proofs.line_length.Reads as line-length-reads
-use Rattle.shape.proofs.numbers_of.Reads as numbers-of-reads
+use Rattle.pieces.proofs.byte_at.Reads as byte-at-reads
+use Rattle.pieces.proofs.line_length.Reads as line-length-reads
+use Rattle.pieces.proofs.numbers_of.Reads as numbers-of-reads
 use Rattle.shape.proofs.section_of.Reads as section-of-reads
 
 abbrev Inv-loop : tie.InvT-loop

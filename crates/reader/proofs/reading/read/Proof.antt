@@ -16,9 +16,9 @@ use Rattle.reader.proofs.reading.read.Reads as reads
 use Rattle.reader.proofs.reading.read.Lts as lts
 use Rattle.reader.proofs.reading.read_trailed.Reads as read-trailed-reads
 use Rattle.lines.proofs.refused.Reads as refused-reads
-use Rattle.shape.proofs.numbers_of.Reads as numbers-of-reads
-use Rattle.shape.proofs.is_trailer.Reads as is-trailer-reads
-use Rattle.shape.proofs.last_line.Reads as last-line-reads
+use Rattle.pieces.proofs.numbers_of.Reads as numbers-of-reads
+use Rattle.pieces.proofs.is_trailer.Reads as is-trailer-reads
+use Rattle.pieces.proofs.last_line.Reads as last-line-reads
 
 refused-requires : tie.Need-refused-requires
 refused-requires c κs = search needs

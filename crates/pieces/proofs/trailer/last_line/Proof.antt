@@ -6,12 +6,12 @@ use mathlib.Core.Logic.{⊎-elim}
 use native.Mathlib.Omega.{arith}
 use borrow.Author.Tests.{eq-eqb, ne-eqb}
 use lib.ListN.{length, drop}
 use Rattle.shape.specs.Trailer.{last-line, last-line-from}
-use Rattle.shape.proofs.TurnLaws.{ends-step}
-use Rattle.shape.proofs.trailer.last_line.Statement.{statement}
-use Rattle.shape.proofs.trailer.last_line.Tie as tie
-use Rattle.shape.proofs.trailer.last_line.Reads as reads
-use Rattle.shape.proofs.trailer.last_line.Lts as lts
+use Rattle.pieces.proofs.TurnLaws.{ends-step}
+use Rattle.pieces.proofs.trailer.last_line.Statement.{statement}
+use Rattle.pieces.proofs.trailer.last_line.Tie as tie
+use Rattle.pieces.proofs.trailer.last_line.Reads as reads
+use Rattle.pieces.proofs.trailer.last_line.Lts as lts
 
 abbrev Inv-loop : tie.InvT-loop
 Inv-loop s i₀ start₀ last₀ lines₀ i start last lines = (i ≤ length s) × (start ≤ i) × (last ≤ start) × (lines ≤ i) × (last-line s ≡ last-line-from (drop i s) i start last lines)

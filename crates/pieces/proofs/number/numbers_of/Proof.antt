@@ -3,12 +3,12 @@ use borrow.Author.Needs.{needs}
 use native.Mathlib.Omega.{arith}
 use Prim.Native.Nat.{_+_}
 use lib.ListN.{drop}
-use Rattle.shape.proofs.NumberLaws.{width-le, numbers-law}
-use Rattle.shape.proofs.number.numbers_of.Statement.{statement}
-use Rattle.shape.proofs.number.numbers_of.Tie as tie
-use Rattle.shape.proofs.number.numbers_of.Reads as reads
-use Rattle.shape.proofs.number.numbers_of.Lts as lts
-use Rattle.shape.proofs.number.number_at.Reads as number-at-reads
+use Rattle.pieces.proofs.DigitTurnLaws.{width-le, numbers-law}
+use Rattle.pieces.proofs.number.numbers_of.Statement.{statement}
+use Rattle.pieces.proofs.number.numbers_of.Tie as tie
+use Rattle.pieces.proofs.number.numbers_of.Reads as reads
+use Rattle.pieces.proofs.number.numbers_of.Lts as lts
+use Rattle.pieces.proofs.number.number_at.Reads as number-at-reads
 
 number-at-requires : tie.Need-number-at-requires
 number-at-requires c κs = search needs

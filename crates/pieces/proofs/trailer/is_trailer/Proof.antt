@@ -4,15 +4,15 @@ use Prim.Native.Nat.{_-_}
 use mathlib.Core.Path.{_≡_, refl, sym, ap, _∙_}
 use native.Mathlib.Omega.{arith}
 use lib.ListN.{length, drop}
 use Rattle.shape.specs.Trailer.{is-trailer, is-done}
 use Rattle.shape.specs.Grammar.{run}
 use Rattle.shape.specs.declared.shape.Section.the-variants.{Trailer}
-use Rattle.shape.proofs.TurnLaws.{run-step, run-end, not-done}
-use Rattle.shape.proofs.trailer.is_trailer.Statement.{statement}
-use Rattle.shape.proofs.trailer.is_trailer.Tie as tie
-use Rattle.shape.proofs.trailer.is_trailer.Reads as reads
-use Rattle.shape.proofs.trailer.is_trailer.Lts as lts
-use Rattle.shape.proofs.shape.next_state.Reads as next-state-reads
+use Rattle.pieces.proofs.TurnLaws.{run-step, run-end, not-done}
+use Rattle.pieces.proofs.trailer.is_trailer.Statement.{statement}
+use Rattle.pieces.proofs.trailer.is_trailer.Tie as tie
+use Rattle.pieces.proofs.trailer.is_trailer.Reads as reads
+use Rattle.pieces.proofs.trailer.is_trailer.Lts as lts
+use Rattle.shape.proofs.next_state.Reads as next-state-reads
 
 abbrev Inv-loop : tie.InvT-loop
 Inv-loop line st₀ i₀ st i = is-trailer line ≡ is-done (run Trailer st (drop i line))

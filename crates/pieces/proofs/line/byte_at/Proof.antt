@@ -2,10 +2,10 @@
 use lib.ListN.{List·getD-eq-default}
 use mathlib.Core.Path.{sym}
 use borrow.Author.Needs.{needs}
-use Rattle.shape.proofs.line.byte_at.Statement.{statement}
-use Rattle.shape.proofs.line.byte_at.Tie as tie
-use Rattle.shape.proofs.line.byte_at.Reads as reads
-use Rattle.shape.proofs.line.byte_at.Lts as lts
+use Rattle.pieces.proofs.line.byte_at.Statement.{statement}
+use Rattle.pieces.proofs.line.byte_at.Tie as tie
+use Rattle.pieces.proofs.line.byte_at.Reads as reads
+use Rattle.pieces.proofs.line.byte_at.Lts as lts
 
 shared-slice-read-result : tie.Need-shared-slice-read-result
 shared-slice-read-result c = search needs

@@ -3,12 +3,13 @@ use Prim.Native.Nat.{_≤_, _+_, _-_}
 use mathlib.Core.Path.{_≡_, refl, sym, _∙_}
 use native.Mathlib.Omega.{arith}
 use lib.ListN.{drop}
 use Rattle.shape.specs.Number.{number-value, number-width}
-use Rattle.shape.proofs.NumberLaws.{more, stop-full, stop-end, stop-low, stop-high, cap, cap-top, cap-more}
-use Rattle.shape.proofs.number.number_at.Statement.{statement}
-use Rattle.shape.proofs.number.number_at.Tie as tie
-use Rattle.shape.proofs.number.number_at.Reads as reads
-use Rattle.shape.proofs.number.number_at.Lts as lts
+use Rattle.shape.proofs.NumberLaws.{cap, cap-top}
+use Rattle.pieces.proofs.DigitTurnLaws.{more, stop-full, stop-end, stop-low, stop-high, cap-more}
+use Rattle.pieces.proofs.number.number_at.Statement.{statement}
+use Rattle.pieces.proofs.number.number_at.Tie as tie
+use Rattle.pieces.proofs.number.number_at.Reads as reads
+use Rattle.pieces.proofs.number.number_at.Lts as lts
 
 abbrev Inv-loop : tie.InvT-loop
 Inv-loop s at value₀ next₀ left₀ value next left = (left ≤ 5) × (value ≤ cap (5 - left)) × (number-value 5 0 (drop at s) ≡ number-value left value (drop next s)) × (at + number-width 5 (drop at s) ≡ next + number-width left (drop next s))

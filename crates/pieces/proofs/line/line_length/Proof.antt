@@ -4,12 +4,12 @@ use mathlib.Core.Path.{_≡_, _∙_}
 use native.Mathlib.Omega.{arith}
 use borrow.Author.Tests.{eq-eqb, ne-eqb}
 use lib.ListN.{length, drop}
 use Rattle.shape.specs.Line.{line-length}
-use Rattle.shape.proofs.TurnLaws.{line-step, line-none}
-use Rattle.shape.proofs.line.line_length.Statement.{statement}
-use Rattle.shape.proofs.line.line_length.Tie as tie
-use Rattle.shape.proofs.line.line_length.Reads as reads
-use Rattle.shape.proofs.line.line_length.Lts as lts
+use Rattle.pieces.proofs.TurnLaws.{line-step, line-none}
+use Rattle.pieces.proofs.line.line_length.Statement.{statement}
+use Rattle.pieces.proofs.line.line_length.Tie as tie
+use Rattle.pieces.proofs.line.line_length.Reads as reads
+use Rattle.pieces.proofs.line.line_length.Lts as lts
 
 abbrev Inv-loop : tie.InvT-loop
 Inv-loop text i₀ i = (i ≤ length text) × (line-length text ≡ i + line-length (drop i text))

@@ -1,0 +1,2 @@
+pub mod DigitTurnLaws
+pub mod TurnLaws

@@ -12,7 +12,7 @@ use hints::{Hints, hints_after, hints_of, next_holding, next_item};
 use residual::{start_options, start_orderings};
 
 // A round of charges: what is open of n options and m orderings, how many items a chain may have, and how much is enough.
-#[derive(Drop)]
+#[derive(Clone, Copy)]
 pub struct Round {
     pub n: usize,
     pub m: usize,
@@ -137,7 +137,7 @@ fn charge_rounds(
 }
 
 // What was charged, and what is left of each item's weight.
-#[derive(Drop)]
+#[derive(Clone, Copy)]
 pub struct Charged {
     pub charged: u32,
     pub left_options: [u32; 32],

@@ -1,22 +1,23 @@
 // Buffers of every length, from none to two bytes more than the text.
 use crate::shown::{begins, end_line, print_answer, print_bool, print_number, untouched};
 use sheet::Sheet;
+use std::io;
+use std::io::Write;
 
 const TEXT: [u8; 60] = *b"C 3 1\nX 2 4\nF 1 5\nF 2 3\nF 3 4\nF 4 2\nU 1 3 6\nU 2 1 1\nT 3 7 9\n";
 
 // Writes into the first n bytes of a buffer of `#`.
-fn one_length(s: Sheet, n: usize) {
+fn one_length<W: Write>(to: &mut W, s: Sheet, n: usize) -> io::Result<()> {
     let mut out = [35u8; 80];
     let w = write_part(s, &mut out, n);
-    print_number(n);
-    let a = w.answer;
-    print_answer(a);
-    print_number(w.size);
-    print_bool(untouched(&out, w.size));
+    print_number(to, n)?;
+    print_answer(to, w.answer)?;
+    print_number(to, w.size)?;
+    print_bool(to, untouched(&out, w.size))?;
     if 0 < w.size {
-        print_bool(begins(&out, w.size, &TEXT));
+        print_bool(to, begins(&out, w.size, &TEXT))?;
     }
-    end_line();
+    end_line(to)
 }
 
 fn write_part(s: Sheet, out: &mut [u8], n: usize) -> writer::Written {
@@ -26,10 +27,9 @@ fn write_part(s: Sheet, out: &mut [u8], n: usize) -> writer::Written {
     writer::write(s, out)
 }
 
-pub fn each_length(s: Sheet) {
-    let mut n: usize = 0;
-    while n <= 62 {
-        one_length(s, n);
-        n += 1;
+pub fn each_length<W: Write>(to: &mut W, s: Sheet) -> io::Result<()> {
+    for n in 0..63 {
+        one_length(to, s, n)?;
     }
+    Ok(())
 }

@@ -1,53 +1,45 @@
-// Answers as lines of text.
+// Answers as parts of a line of text.
 use sheet::Answer;
+use std::io;
+use std::io::Write;
 
-pub fn print_number(n: usize) {
-    io::print_decimal(1, n as u64);
-    io::write_all(1, b" ");
+pub fn print_number<W: Write>(to: &mut W, n: usize) -> io::Result<()> {
+    write!(to, "{n} ")
 }
 
 // The number, the line and the column; three zeros where nothing is refused.
-pub fn print_answer(a: Answer) {
+pub fn print_answer<W: Write>(to: &mut W, a: Answer) -> io::Result<()> {
     match a {
-        Answer::Accepted => {
-            io::write_all(1, b"0 0 0 ");
-        }
+        Answer::Accepted => to.write_all(b"0 0 0 "),
         Answer::Refused { place, why } => {
-            print_number(sheet::number_of(why));
-            print_number(place.line);
-            print_number(place.column);
+            print_number(to, sheet::number_of(why))?;
+            print_number(to, place.line)?;
+            print_number(to, place.column)
         }
     }
 }
 
-pub fn print_bool(b: bool) {
+pub fn print_bool<W: Write>(to: &mut W, b: bool) -> io::Result<()> {
     if b {
-        io::write_all(1, b"yes ");
+        to.write_all(b"yes ")
     } else {
-        io::write_all(1, b"no ");
+        to.write_all(b"no ")
     }
 }
 
-pub fn end_line() {
-    io::write_all(1, b"\n");
+pub fn end_line<W: Write>(to: &mut W) -> io::Result<()> {
+    to.write_all(b"\n")
 }
 
-// Whether a buffer begins with these n bytes.
+// Whether a buffer begins with these n bytes, and the text has no others.
 pub fn begins(out: &[u8], n: usize, text: &[u8]) -> bool {
     if n <= out.len() {
-        return check::same(&out[..n], text);
+        return &out[..n] == text;
     }
     false
 }
 
 // Whether every byte from n on is `#`.
 pub fn untouched(out: &[u8], n: usize) -> bool {
-    let mut i = n;
-    while i < out.len() {
-        if out[i] != 35 {
-            return false;
-        }
-        i += 1;
-    }
-    true
+    out.iter().skip(n).all(|b| *b == b'#')
 }

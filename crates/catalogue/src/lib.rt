@@ -1,4 +1,6 @@
 // The catalogue's precedences between subscribed options, as a table of rows. For the crates above: counts handed in must be those of a record.
+#![tactic(auto)]
+
 ghost use Rattle.std.specs.Prelude.{◌≡◌, ◌≤◌, length};
 ghost use Rattle.catalogue.specs.Catalogue.{line_of, WithPair, WithLine, SaysBy};
 

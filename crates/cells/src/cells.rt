@@ -10,7 +10,7 @@ ghost use Rattle.cells.specs.Cells.{no_limit, weight_with_orderings_in, option_l
 use half::{Half, weigh, weigh_both};
 
 // What a value lies between, if an item is kept and if it is dropped.
-#[derive(Drop)]
+#[derive(Clone, Copy)]
 pub struct Limit {
     pub kept_lower: u32,
     pub kept_upper: u32,

@@ -7,7 +7,7 @@ use crate::member::end_of;
 use crate::walk::walk_back;
 
 // Items are numbered from 0 for options and from 32 for orderings. Where there is no chain, the length is 0.
-#[derive(Drop)]
+#[derive(Clone, Copy)]
 pub struct Chain {
     pub len: usize,
     pub items: [u8; 64],

@@ -4,7 +4,7 @@ ghost use Rattle.std.specs.Prelude.{◌≤◌, ◌<◌, length};
 use crate::member::{fresh, lowest, without_lowest};
 
 // How far the walk is: what is known after the items of the level before, where open orderings may begin, what was met, and the level itself.
-#[derive(Drop)]
+#[derive(Clone, Copy)]
 pub struct Front {
     pub reach: u32,
     pub from: u32,
@@ -15,7 +15,7 @@ pub struct Front {
 }
 
 // What closes the chain: options known before its beginning, and the ends of orderings from which it goes on there.
-#[derive(Drop)]
+#[derive(Clone, Copy)]
 pub struct Goal {
     pub before: u32,
     pub ends: u32,

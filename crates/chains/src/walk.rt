@@ -5,14 +5,14 @@ use crate::chain::{Chain, none};
 use crate::member::{end_at, end_of, lowest, without_lowest};
 
 // An item and what it holds; an item that holds nothing stands for none.
-#[derive(Drop)]
+#[derive(Clone, Copy)]
 pub struct Best {
     pub item: usize,
     pub holds: u32,
 }
 
 // One level as the walk back sees it: its options, where its orderings end, and where they may begin.
-#[derive(Drop)]
+#[derive(Clone, Copy)]
 pub struct LevelSets {
     pub options: u32,
     pub seconds: u32,

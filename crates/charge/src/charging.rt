@@ -10,7 +10,7 @@ use links::{all_named, closed};
 use residual::{held_by, take_all};
 
 // What the members hold, and the least of it.
-#[derive(Drop)]
+#[derive(Clone, Copy)]
 pub struct Measure {
     pub least: u32,
     pub was: [u32; 64],

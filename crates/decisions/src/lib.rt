@@ -1,4 +1,6 @@
 // A decision list as bytes, read and written.
+#![tactic(auto)]
+
 mod decision_bytes;
 mod decisions_out;
 

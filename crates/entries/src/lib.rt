@@ -1,1 +1,2 @@
 // Lists in a lent output and from bytes, entry by entry: definitions and laws, in `specs/`. No code stands here.
+#![tactic(auto)]

@@ -1,4 +1,6 @@
 // Answers that are numbers: the limits of a half-decided sheet as 386 of them, and a search's two totals.
+#![tactic(auto)]
+
 mod limits_out;
 mod totals_out;
 

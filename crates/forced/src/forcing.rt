@@ -5,7 +5,7 @@ ghost use Rattle.forced.specs.Forced.{ForcedBy};
 use crate::parts::{dropped_options, dropped_orderings, kept_options, meets};
 use given::Given;
 
-#[derive(Drop)]
+#[derive(Clone, Copy)]
 pub struct Forced {
     pub kept: u32,
     pub dropped: u32,

@@ -1,6 +1,8 @@
 // What a decision list gives: its kept and its dropped items as sets, and such sets as a list; and whether it is open where it must be
 // or where it must not.
 // For the crates above: counts handed in must be those of a record.
+#![tactic(auto)]
+
 mod choice;
 mod decided;
 mod open;

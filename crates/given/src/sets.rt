@@ -8,7 +8,7 @@ use crate::choice::{is_dropped, is_kept};
 use sheet::{Choice, Decisions};
 
 // What a decision list keeps and drops by itself, before anything is forced.
-#[derive(Drop)]
+#[derive(Clone, Copy)]
 pub struct Given {
     pub kept: u32,
     pub dropped: u32,

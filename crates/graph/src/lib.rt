@@ -1,4 +1,6 @@
 // Graphs over slots, as tables of rows. For the crates above: slots handed in must be in range.
+#![tactic(auto)]
+
 mod table;
 
 ghost use Rattle.std.specs.Prelude.{◌+◌, ◌≤◌, ◌<◌};

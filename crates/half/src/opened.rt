@@ -9,7 +9,7 @@ use crate::weights::{weigh_all, weigh_both};
 use forced::Forced;
 
 // What the limits are worked out from: the open items, what is known, the weight kept and the weight not dropped.
-#[derive(Drop)]
+#[derive(Clone, Copy)]
 pub struct Half {
     pub open_options: u32,
     pub open_orderings: u64,

@@ -7,7 +7,7 @@ use std::num::wrapping_add_u32;
 
 // What is charged so far, the open options whose consequences still hold something, how much they hold, and between which options an open
 // ordering still holds something.
-#[derive(Drop)]
+#[derive(Clone, Copy)]
 pub struct Hints {
     pub charged: u32,
     pub positive: u32,

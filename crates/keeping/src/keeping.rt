@@ -12,26 +12,26 @@ use loose::{ends_of, is_loose};
 use residual::held_by;
 
 // A set, and whether it is more than it was.
-#[derive(Drop)]
+#[derive(Clone, Copy)]
 pub struct Options {
     pub set: u32,
     pub more: bool,
 }
 
-#[derive(Drop)]
+#[derive(Clone, Copy)]
 pub struct Orderings {
     pub set: u64,
     pub more: bool,
 }
 
-#[derive(Drop)]
+#[derive(Clone, Copy)]
 pub struct More {
     pub given: Given,
     pub more: bool,
 }
 
 // What is open, the options at which open orderings begin and end, and how much can be spared.
-#[derive(Drop)]
+#[derive(Clone, Copy)]
 pub struct Open {
     pub options: u32,
     pub orderings: u64,

@@ -7,7 +7,7 @@ use cells::no_limit;
 use shape::Place;
 use sheet::{Answer, Choice, Decision, Decisions, Refusal, Sheet};
 
-#[derive(Drop)]
+#[derive(Clone, Copy)]
 pub struct LimitsAnswer {
     pub answer: Answer,
     pub limits: Limited,

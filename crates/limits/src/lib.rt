@@ -1,4 +1,6 @@
 // Limits of a half-decided sheet.
+#![tactic(auto)]
+
 mod answer;
 mod whole;
 

@@ -13,7 +13,7 @@ use half::Half;
 use sheet::{Choice, Decision, Decisions};
 
 // The whole answer: forced decisions, and what the values lie between.
-#[derive(Drop)]
+#[derive(Clone, Copy)]
 pub struct Limited {
     pub contradiction: bool,
     pub decisions: Decisions,

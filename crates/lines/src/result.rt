@@ -6,7 +6,7 @@ use shape::Place;
 use sheet::{Answer, Refusal, Sheet};
 
 // The answer, and the record of an accepted sheet.
-#[derive(Drop)]
+#[derive(Clone, Copy)]
 pub struct Reading {
     pub answer: Answer,
     pub sheet: Sheet,

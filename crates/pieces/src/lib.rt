@@ -1,4 +1,6 @@
 // Pieces of a text: its first line, its last line, the numbers of a line.
+#![tactic(auto)]
+
 mod line;
 mod number;
 mod trailer;

@@ -5,7 +5,7 @@ ghost use Rattle.shape.specs.Number.{number_value, number_width, numbers_of};
 use shape::Numbers;
 
 // A number that was read, and the position after it.
-#[derive(Drop)]
+#[derive(Clone, Copy)]
 pub struct Parsed {
     pub value: u32,
     pub next: usize,

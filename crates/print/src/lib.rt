@@ -1,5 +1,7 @@
 // Numbers and lines, printed into a lent buffer.
 // For the crates above: the buffer must have room for what is printed.
+#![tactic(auto)]
+
 mod line;
 mod number;
 

@@ -1,4 +1,6 @@
 // Reading an order sheet into its record.
+#![tactic(auto)]
+
 mod reading;
 
 pub use lines::Reading;

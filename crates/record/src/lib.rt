@@ -1,4 +1,6 @@
 // The record's rule, checked: whether some accepted sheet gives a record.
+#![tactic(auto)]
+
 mod record;
 
 pub use record::is_recorded;

@@ -1,4 +1,6 @@
 // The report of a sheet, in a lent buffer.
+#![tactic(auto)]
+
 mod page;
 mod reporting;
 

@@ -7,7 +7,7 @@ use shape::Place;
 use sheet::{Answer, Refusal};
 
 // The answer, and how many bytes the report has.
-#[derive(Drop)]
+#[derive(Clone, Copy)]
 pub struct Reported {
     pub answer: Answer,
     pub size: usize,

@@ -1,5 +1,7 @@
 // Rows: a set of slots as the bits of one word; options in 32 bits, orderings in 64.
 // For the crates above: a slot handed in must be one of the word's.
+#![tactic(auto)]
+
 mod tests;
 
 ghost use Rattle.std.specs.Prelude.{◌≡◌, ◌<◌};

@@ -1,1 +1,2 @@
 // The rules are definitions and laws, in `specs/`. Code stands in the crates above.
+#![tactic(auto)]

@@ -10,7 +10,7 @@ use so_far::{nothing_found, worth};
 use value::bounds_of;
 
 // The relaxation that answers, as sets, with its value and the ceiling.
-#[derive(Drop)]
+#[derive(Clone, Copy)]
 pub struct Found {
     pub kept: u32,
     pub kept_orderings: u64,

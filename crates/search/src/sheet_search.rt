@@ -9,7 +9,7 @@ use shape::Place;
 use sheet::{Answer, Decisions, Refusal, Sheet};
 
 // The answer: kept or dropped for every item within the counts, open past them; the relaxation's value and a ceiling.
-#[derive(Drop)]
+#[derive(Clone, Copy)]
 pub struct Searched {
     pub answer: Answer,
     pub decisions: Decisions,

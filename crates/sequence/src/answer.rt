@@ -6,7 +6,7 @@ use crate::whole::sequence_of;
 use shape::Place;
 use sheet::{Answer, Decisions, Number, Refusal, Sheet};
 
-#[derive(Drop)]
+#[derive(Clone, Copy)]
 pub struct Sequenced {
     pub answer: Answer,
     pub places: [Number; 32],

@@ -1,4 +1,6 @@
 // The sequence of a chosen relaxation.
+#![tactic(auto)]
+
 mod answer;
 mod edges;
 mod whole;

@@ -8,7 +8,7 @@ use given::Given;
 use placing::place_all;
 use sheet::Number;
 
-#[derive(Drop)]
+#[derive(Clone, Copy)]
 pub struct Placed {
     pub consistent: bool,
     pub places: [Number; 32],

@@ -17,7 +17,7 @@ use half::Half;
 use keeping::{More, keep_more};
 
 // Whether nothing here is worth what is wanted; otherwise the decisions that are left, what they leave open and what they keep in weight.
-#[derive(Drop)]
+#[derive(Clone, Copy)]
 pub struct Settled {
     pub over: bool,
     pub given: Given,
@@ -27,7 +27,7 @@ pub struct Settled {
 }
 
 // One round: where more was kept than was forced, there is another.
-#[derive(Drop)]
+#[derive(Clone, Copy)]
 pub struct Step {
     pub settled: Settled,
     pub more: bool,

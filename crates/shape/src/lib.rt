@@ -1,4 +1,6 @@
 // How a line of an order sheet is shaped, byte by byte.
+#![tactic(auto)]
+
 mod number;
 mod scan;
 mod shape;

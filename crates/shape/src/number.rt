@@ -1,5 +1,5 @@
 // The numbers of a line, and the columns of the second and the third.
-#[derive(Drop)]
+#[derive(Clone, Copy)]
 pub struct Numbers {
     pub first: u32,
     pub second: u32,

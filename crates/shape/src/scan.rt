@@ -5,14 +5,14 @@ ghost use Rattle.shape.specs.Scan.{section_of, first_misshapen};
 use crate::shape::{Section, State, next_state};
 
 // A line and a column, from 1.
-#[derive(Drop)]
+#[derive(Clone, Copy)]
 pub struct Place {
     pub line: usize,
     pub column: usize,
 }
 
 // The first misshapen place with the byte that stands there, if there is one.
-#[derive(Drop)]
+#[derive(Clone, Copy)]
 pub enum Scanned {
     Clean,
     At(Place, u8),

@@ -3,7 +3,7 @@ ghost use Rattle.std.specs.Prelude.{◌≡◌};
 ghost use Rattle.shape.specs.Shape.{next_state, after_field, in_number, begin_line};
 
 // The four kinds of line of a sheet, in their order.
-#[derive(Drop)]
+#[derive(Clone, Copy)]
 pub enum Section {
     Catalogue,
     Options,
@@ -12,7 +12,7 @@ pub enum Section {
 }
 
 // Where in a line the scan stands.
-#[derive(Drop)]
+#[derive(Clone, Copy)]
 pub enum State {
     // No byte of the line read.
     Start,

@@ -1,5 +1,5 @@
 // Where the last whole line begins, and how many whole lines there are.
-#[derive(Drop)]
+#[derive(Clone, Copy)]
 pub struct LastLine {
     pub start: usize,
     pub lines: usize,

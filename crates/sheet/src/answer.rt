@@ -5,7 +5,7 @@ ghost use Rattle.sheet.specs.Answer.{number_of};
 use shape::Place;
 
 // Why something is refused: a case for each number of the requirements' table.
-#[derive(Drop)]
+#[derive(Clone, Copy)]
 pub enum Refusal {
     SheetTooLong,
     NoTrailer,
@@ -47,7 +47,7 @@ pub fn number_of(why: Refusal) -> usize
     }
 }
 
-#[derive(Drop)]
+#[derive(Clone, Copy)]
 pub enum Answer {
     Accepted,
     Refused { place: Place, why: Refusal },

@@ -2,7 +2,7 @@
 ghost use Rattle.std.specs.Prelude.{◌≡◌};
 ghost use Rattle.sheet.specs.Decisions.{all_open};
 
-#[derive(Drop)]
+#[derive(Clone, Copy)]
 pub enum Decision {
     Open,
     Kept,
@@ -10,11 +10,11 @@ pub enum Decision {
 }
 
 // A decision as an entry of a list.
-#[derive(Drop)]
+#[derive(Clone, Copy)]
 pub struct Choice(pub Decision);
 
 // One entry for each slot, by the order of the F lines and of the U lines.
-#[derive(Drop)]
+#[derive(Clone, Copy)]
 pub struct Decisions {
     pub options: [Choice; 32],
     pub orderings: [Choice; 64],

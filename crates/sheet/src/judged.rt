@@ -2,7 +2,7 @@
 use crate::answer::Refusal;
 
 // The first rule that a line breaks, with its column.
-#[derive(Drop)]
+#[derive(Clone, Copy)]
 pub enum Judged {
     Fine,
     Broken(Refusal, usize),

@@ -1,4 +1,6 @@
 // The order sheet as a record: its types, and in specs/ what is said of it: the rules of its lines, the record's rule, its text.
+#![tactic(auto)]
+
 mod answer;
 mod count;
 mod decision;

@@ -1,4 +1,6 @@
 // From catalogue numbers to slots. For the crates above: counts handed in must be those of a record.
+#![tactic(auto)]
+
 ghost use Rattle.std.specs.Prelude.{◌≡◌, ◌≤◌, length};
 ghost use Rattle.slots.specs.Slots.{NumbersDiffer, TableOf, SlotsBy};
 

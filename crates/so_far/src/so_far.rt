@@ -7,7 +7,7 @@ ghost use Rattle.so_far.specs.State.{wanted, taken, nothing_found};
 use given::Given;
 
 // The relaxation found, if any, and the goal: what another must be worth to count.
-#[derive(Drop)]
+#[derive(Clone, Copy)]
 pub struct SoFar {
     pub goal: u32,
     pub found: bool,

@@ -5,7 +5,7 @@ ghost use Rattle.subscription.specs.Shown.{ShownBy};
 
 use sheet::Sheet;
 
-#[derive(Drop)]
+#[derive(Clone, Copy)]
 pub struct BySlot {
     pub rows: [u32; 32],
     pub firsts: [u8; 64],

@@ -7,7 +7,7 @@ use graph::transposed;
 use keeping::nothing_given;
 
 // A ceiling over all relaxations, and the floor from which the search looks for one.
-#[derive(Drop)]
+#[derive(Clone, Copy)]
 pub struct Bounds {
     pub floor: u32,
     pub ceiling: u32,

@@ -1,5 +1,7 @@
 // The best value of a sheet, whichever open item is taken up next, and what a search starts from.
 // For the crates above: counts and arrays handed in must be those of a record.
+#![tactic(auto)]
+
 mod bounds;
 mod value;
 

@@ -1,4 +1,6 @@
 // What crosses the boundary to C and Rust: answers as one number, lent outputs, places as bytes.
+#![tactic(auto)]
+
 mod outputs;
 mod packed;
 mod places_out;

@@ -1,4 +1,6 @@
 // Writing a sheet back.
+#![tactic(auto)]
+
 mod writing;
 
 pub use writing::{Written, write};

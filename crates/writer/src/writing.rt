@@ -8,7 +8,7 @@ use sheet::{Answer, Refusal, Sheet};
 use text::{put_text, text_size};
 
 // The answer of the writer, and how many bytes it wrote.
-#[derive(Drop)]
+#[derive(Clone, Copy)]
 pub struct Written {
     pub answer: Answer,
     pub size: usize,

@@ -1,6 +1,5 @@
 -- A list of k entries: the first n by a function, the others the same.
 use Rattle.std.specs.Prelude.{List, [], ◌∷◌, ℕ, zero, suc}
-use Rattle.rules.specs.Limits.{A}
 
 module _ {A : Type 0} where
   unfoldable pub filled : (k n : ℕ) → (ℕ → A) → A → List A

@@ -1,6 +1,5 @@
 -- What `limits` answers: the limits of the rules, or a refusal.
 use Rattle.std.specs.Prelude.{false, cond, List, [], ◌∷◌, map, ℕ, zero, suc, replicate, take, drop}
-use Rattle.rules.specs.Forced.{contradiction}
 use Rattle.given.specs.Given.{undecided, decided_past, choice_of, decision_list}
 use Rattle.rules.specs.Results.{limits_of}
 use Rattle.cells.specs.Cells.{no_limit, shown_limit}

@@ -1,5 +1,5 @@
 -- One turn of each loop over the bytes of a text, by the bytes that are left.
-use Prim.Native.Nat.{ℕ, ◌+◌, ◌-◌, ◌≤◌, ◌<◌}
+use Prim.Native.Nat.{ℕ, ◌+◌, ◌≤◌, ◌<◌}
 use mathlib.Core.Path.{◌≡◌, refl}
 use mathlib.Core.Bool.{false, cond}
 use mathlib.Core.List.{List, [], ◌∷◌}

@@ -7,7 +7,6 @@ use Rattle.graph.specs.Shown.{counted, Shows}
 use Rattle.rules.specs.Results.{placed, acyclic, lacks_an_option}
 use Rattle.rules.specs.Sequence.{precedes, kept_slots}
 use Rattle.rules.specs.Relaxation.{KeptBySlot}
-use Rattle.placing.specs.Next.{number}
 use Rattle.sequence.specs.Padded.{places_of}
 use Rattle.given.specs.declared.sets.Given.{Given}
 use Rattle.sequence.specs.declared.whole.Placed.{Placed}

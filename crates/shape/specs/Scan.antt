@@ -1,5 +1,5 @@
 -- The first byte that, after the bytes before it, no well-shaped line of that section could have there.
-use Rattle.std.specs.Prelude.{ℕ, ◌+◌, ◌-◌, cond, List, [], ◌∷◌, ltb}
+use Rattle.std.specs.Prelude.{ℕ, ◌+◌, cond, List, [], ◌∷◌, ltb}
 use Rattle.shape.specs.Shape.{next_state}
 use Rattle.shape.specs.declared.shape.Section.{Section}
 use Rattle.shape.specs.declared.shape.Section.TheVariants.{Catalogue, Options, Orderings}

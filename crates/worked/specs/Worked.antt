@@ -17,8 +17,8 @@ use Rattle.rules.specs.Sequence.{precedes, without, SequenceOf}
 use Rattle.rules.specs.Best.{BestOf}
 use Rattle.rules.specs.Results.{Limit, no_limit, Limits, option_limit, ordering_limit, limits_of, lacks_an_option, acyclic, is_relaxation, is_consistent, smallest_ready, placed, numbers_in_sequence, sequence_of_choice, first_best, best_of, best_value, answer_at_nought}
 use Rattle.rules.specs.laws.Proper.{number_again, good_ends, is_proper, proper_out}
-use Rattle.rules.specs.laws.Sequence.{sequence_of_choice_is}
-use Rattle.rules.specs.laws.Best.{best_of_is_best}
+use Rattle.rules.proofs.laws.Sequence.{sequence_of_choice_is}
+use Rattle.rules.proofs.laws.Best.{best_of_is_best}
 use Rattle.sheet.specs.Answer.{number_of}
 use Rattle.sheet.specs.Lines.{lines_of}
 use Rattle.sheet.specs.declared.answer.Answer.{Answer}

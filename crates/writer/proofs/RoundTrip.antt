@@ -1,5 +1,5 @@
 -- Reading and writing are inverse to each other, 12 is given exactly to a record that no accepted sheet gives, and the writer's promise allows one result.
-use Prim.Native.Nat.{ℕ, ◌+◌, ◌≤◌}
+use Prim.Native.Nat.{ℕ, ◌≤◌}
 use mathlib.Core.Path.{◌≡◌, refl, sym, ap, ◌∙◌}
 use mathlib.Core.Bool.{Bool, true, false, cond}
 use mathlib.Core.List.{List, ◌++◌, append-nil}

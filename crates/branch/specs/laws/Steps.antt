@@ -9,8 +9,10 @@ use Rattle.rules.specs.Decisions.{Decision, Kept, Dropped, open_items}
 use Rattle.rules.specs.laws.Decisions.{just_the_kept}
 use Rattle.rules.specs.laws.search.Branch.{decide_next, decide_next_sets}
 use Rattle.rules.specs.laws.search.Finds as R
-use Rattle.rules.specs.laws.search.Finds.{Finds, nothing, finds_split, finds_leaf, finds_worse, finds_cut}
-use Rattle.rules.specs.laws.search.Reduces.{finds_reduced, reduces_weaker}
+use Rattle.rules.specs.laws.search.Finds.{Finds, nothing, finds_leaf, finds_worse, finds_cut}
+use Rattle.rules.proofs.laws.search.Finds.{finds_split}
+use Rattle.rules.specs.laws.search.Reduces.{reduces_weaker}
+use Rattle.rules.proofs.laws.search.Reduces.{finds_reduced}
 use Rattle.half.specs.Weights.{largest_sum}
 use Rattle.given.specs.declared.sets.Given.{Given}
 use Rattle.keeping.specs.Arrays.{ShowsSheet}

@@ -6,8 +6,9 @@ use Rattle.rules.specs.Subscription.{Subscription}
 use Rattle.rules.specs.Decisions.{DecidedBySlot}
 use Rattle.rules.specs.laws.search.Items.{Item}
 use Rattle.rules.specs.laws.search.Residual.{Residual, held}
-use Rattle.rules.specs.laws.search.Charged.{Charged, charged_more}
-use Rattle.rules.specs.laws.search.Loose.{ItemOnTheSheet}
+use Rattle.rules.specs.laws.search.Charged.{Charged}
+use Rattle.rules.proofs.laws.search.Charged.{charged_more}
+use Rattle.rules.proofs.laws.search.Loose.{ItemOnTheSheet}
 use Rattle.graph.specs.Shown.{counted}
 use Rattle.numbered.specs.Items.{ends_only}
 use Rattle.numbered.specs.Shown.{ShowsKnown}

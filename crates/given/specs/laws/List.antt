@@ -4,7 +4,6 @@ use Rattle.std.proofs.Common.{sym, subst, ap, ◌∙◌, arith}
 use Rattle.rules.specs.Slots.{some_below, list_of}
 use Rattle.rules.specs.Lines.{Lines}
 use Rattle.rules.specs.Decisions.{is_open, is_kept, is_dropped, DecidedBySlot, decided_by_slot}
-use Rattle.rules.specs.Limits.{A}
 use Rattle.rules.specs.laws.Slots.{some_in, length_list_of, getD_list_of}
 use Rattle.rows.specs.laws.Sets.{holds_same}
 use Rattle.given.specs.Given.{decided_as, Gives, some_open, open_within, decision_list}

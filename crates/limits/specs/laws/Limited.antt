@@ -4,7 +4,7 @@ use Rattle.std.proofs.Math.Path.{refl}
 use Rattle.std.proofs.Common.{sym, ◌∙◌}
 use Rattle.rules.specs.Subscription.{Subscription}
 use Rattle.rules.specs.Decisions.{DecidedBySlot}
-use Rattle.rules.specs.Forced.{contradiction, decision_of}
+use Rattle.rules.specs.Forced.{decision_of}
 use Rattle.rules.specs.Limits.{whole_lower, whole_upper}
 use Rattle.rows.specs.Bits.{has}
 use Rattle.rows.specs.laws.Sets.{holds_at}
@@ -19,7 +19,7 @@ use Rattle.given.specs.Filled.{filled}
 use Rattle.limits.specs.Limited.{contradictory, limited_as, LimitedBy}
 use Rattle.half.specs.laws.Shown.{K_is, M_less_D_is}
 use Rattle.given.specs.laws.Filled.{filled_same}
-use Rattle.cells.specs.laws.Table.{option_limit_is, ordering_limit_is}
+use Rattle.cells.proofs.laws.Table.{option_limit_is, ordering_limit_is}
 use Rattle.sheet.specs.declared.decision.Choice.{Choice}
 use Rattle.given.specs.declared.sets.Given.{Given}
 use Rattle.limits.specs.declared.whole.Limited.{Limited}

@@ -5,7 +5,7 @@ use Rattle.std.proofs.Common.{sym, subst, ap, ◌∙◌, le_of_suc-le-suc, arith
 use Rattle.rules.specs.Lines.{Lines}
 use Rattle.rules.specs.Subscription.{items, Proper}
 use Rattle.rules.specs.Decisions.{is_open}
-use Rattle.rules.specs.Forced.{contradiction, forced}
+use Rattle.rules.specs.Forced.{forced}
 use Rattle.given.specs.Given.{decided, undecided, decided_past, choice_of, decision_list}
 use Rattle.rules.specs.Results.{limits_of}
 use Rattle.cells.specs.Cells.{no_limit, shown_limit}
@@ -20,10 +20,10 @@ use Rattle.rules.specs.Decisions.{Agrees, fits}
 use Rattle.rules.specs.Results as R'
 use Rattle.rules.specs.Relaxation.{ConsistentRelaxation, value_of}
 use Rattle.rules.specs.laws.Decisions.{fits_in, agrees_kept, agrees_dropped}
-use Rattle.rules.specs.laws.ForcedList.{agrees_with_forced}
-use Rattle.rules.specs.laws.Contradiction.{contradiction_iff_none_agrees, no_contradiction_told, agreeing_no_contradiction}
-use Rattle.rules.specs.laws.OpenChoices.{open_option_may_be_kept, open_option_may_be_dropped, open_ordering_may_be_kept, open_ordering_may_be_dropped}
-use Rattle.rules.specs.laws.LimitsHold.{Between, whole_limits_hold, option_kept_limits_hold, option_dropped_limits_hold, ordering_kept_limits_hold, ordering_dropped_limits_hold}
+use Rattle.rules.proofs.laws.ForcedList.{agrees_with_forced}
+use Rattle.rules.proofs.laws.Contradiction.{contradiction_iff_none_agrees, no_contradiction_told, agreeing_no_contradiction}
+use Rattle.rules.proofs.laws.OpenChoices.{open_option_may_be_kept, open_option_may_be_dropped, open_ordering_may_be_kept, open_ordering_may_be_dropped}
+use Rattle.rules.proofs.laws.LimitsHold.{Between, whole_limits_hold, option_kept_limits_hold, option_dropped_limits_hold, ordering_kept_limits_hold, ordering_dropped_limits_hold}
 use Rattle.sheet.specs.declared.sheet.Sheet.{Sheet}
 use Rattle.sheet.specs.declared.decision.Decisions.{Decisions}
 use Rattle.cells.specs.declared.cells.Limit.{Limit}

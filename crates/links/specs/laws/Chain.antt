@@ -7,7 +7,7 @@ use Prim.Native.Nat.{ℕ, zero, suc, ◌+◌, ◌-◌, ◌≤◌, ◌<◌}
 use Rattle.rules.specs.Slots.{list_of}
 use Rattle.rules.specs.Subscription.{Subscription}
 use Rattle.rules.specs.laws.Tests.{and_i}
-use Rattle.rules.specs.laws.search.Items.{Item, option, ordering, linked, chained, closes}
+use Rattle.rules.specs.laws.search.Items.{Item, linked, chained, closes}
 use Rattle.rows.specs.Sets.{cell}
 use Rattle.numbered.specs.Items.{numbered, Named, ends_only}
 use Rattle.links.specs.Links.{AllNamed, members, linked_in}

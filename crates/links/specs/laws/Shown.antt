@@ -9,7 +9,7 @@ use Rattle.rules.specs.Decisions.{DecidedBySlot}
 use Rattle.rules.specs.KnownBefore.{known_before}
 use Rattle.rules.specs.laws.Tests.{and_l, and_r, and_i}
 use Rattle.rules.specs.laws.search.Items.{Item, option, ordering, begins_at, ends_at, meets, linked, chained, closes, conflict}
-use Rattle.rules.specs.laws.search.Loose.{ItemOnTheSheet}
+use Rattle.rules.proofs.laws.search.Loose.{ItemOnTheSheet}
 use Rattle.rows.specs.Sets.{cell}
 use Rattle.graph.specs.Shown.{counted}
 use Rattle.numbered.specs.Items.{ends_only}

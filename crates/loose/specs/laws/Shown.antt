@@ -14,7 +14,7 @@ use Rattle.rules.specs.Limits.{option_open, ordering_open}
 use Rattle.rules.specs.laws.Tests.{and_l, and_r, and_i, or_l, or_r, or_e, test, T_true}
 use Rattle.rules.specs.laws.Slots.{some_out}
 use Rattle.rules.specs.laws.search.Items.{Item, option, ordering, begins_at, ends_at, meets, linked, link}
-use Rattle.rules.specs.laws.search.Loose.{ItemOnTheSheet, item_open, options_kept, open_item_after, open_item_before, loose}
+use Rattle.rules.proofs.laws.search.Loose.{ItemOnTheSheet, item_open, options_kept, open_item_after, open_item_before, loose}
 use Rattle.rows.specs.Bits.{has}
 use Rattle.rows.specs.Sets.{Holds, cell}
 use Rattle.rows.specs.laws.Sets.{holds_at}

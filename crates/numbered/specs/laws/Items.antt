@@ -5,7 +5,7 @@ use Rattle.rules.specs.Subscription.{Subscription}
 use Rattle.rules.specs.Decisions.{DecidedBySlot}
 use Rattle.rules.specs.KnownBefore.{known_before}
 use Rattle.rules.specs.laws.search.Items.{option, ordering}
-use Rattle.rules.specs.laws.search.Loose.{ItemOnTheSheet}
+use Rattle.rules.proofs.laws.search.Loose.{ItemOnTheSheet}
 use Rattle.rows.specs.Sets.{Table}
 use Rattle.graph.specs.Graph.{EndsAreSlots}
 use Rattle.graph.specs.Shown.{counted, Shows}

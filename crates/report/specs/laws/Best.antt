@@ -12,7 +12,7 @@ use Rattle.rules.specs.Decisions.{is_dropped}
 use Rattle.rules.specs.Results.{sequence_of_choice, answer_at_nought}
 use Rattle.rules.specs.Best as R
 use Rattle.rules.specs.laws.Slots.{getD_list_of}
-use Rattle.rules.specs.laws.Best.{answer_at_nought_is}
+use Rattle.rules.proofs.laws.Best.{answer_at_nought_is}
 use Rattle.given.specs.Given.{decided_as}
 use Rattle.search.specs.Search.{answered, SearchedAs}
 use Rattle.search.specs.laws.Searched.{searched_at_nought}

@@ -18,7 +18,7 @@ use Rattle.rules.specs.Results.{sequence_of_choice}
 use Rattle.rules.specs.Best as R
 use Rattle.rules.specs.laws.Slots.{length_list_of, getD_list_of}
 use Rattle.rules.specs.laws.Decisions.{just_the_kept, just_the_kept_at, length_just_the_kept}
-use Rattle.rules.specs.laws.Sequence.{sequence_of_choice_is}
+use Rattle.rules.proofs.laws.Sequence.{sequence_of_choice_is}
 use Rattle.given.specs.Given.{decided, decided_as, choice_of, undecided, decision_list, some_past, some_open, decided_past, open_within}
 use Rattle.given.specs.laws.List.{length_decision_list}
 use Rattle.given.specs.Filled.{filled}

@@ -11,8 +11,8 @@ use Rattle.rules.specs.Relaxation.{kept_by_slot, value, value_of}
 use Rattle.rules.specs.Results.{sequence_of_choice, answer_at_nought}
 use Rattle.rules.specs.Best as R
 use Rattle.rules.specs.Best.{AnswerTo}
-use Rattle.rules.specs.laws.Best.{answer_at_nought_is}
-use Rattle.rules.specs.laws.Sequence.{sequence_of_choice_is, has_sequence_iff_consistent}
+use Rattle.rules.proofs.laws.Best.{answer_at_nought_is}
+use Rattle.rules.proofs.laws.Sequence.{sequence_of_choice_is, has_sequence_iff_consistent}
 use Rattle.sheet.specs.Answer.{number_of}
 use Rattle.sheet.specs.Limits.{largest_value}
 use Rattle.sheet.specs.Recorded.{Recorded, Subscribed}

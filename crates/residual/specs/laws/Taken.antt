@@ -7,7 +7,7 @@ use Rattle.std.proofs.Math.ListN.{get_or}
 use Rattle.rules.specs.Slots.{sum, pick, over}
 use Rattle.rules.specs.Subscription.{Subscription}
 use Rattle.rules.specs.laws.Sums.{over_none, over_one_is, over_yes, over_no, sum_mono, sum_cong}
-use Rattle.rules.specs.laws.search.Items.{Item, option, ordering}
+use Rattle.rules.specs.laws.search.Items.{Item}
 use Rattle.rules.specs.laws.search.Residual.{Residual, Lower, option_goes, ordering_goes, held}
 use Rattle.numbered.specs.Items.{Named, ends_only}
 use Rattle.numbered.specs.laws.Items.{numbered_option, numbered_ordering}

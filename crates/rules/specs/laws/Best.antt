@@ -10,16 +10,14 @@ use Rattle.rules.specs.Lines.{Lines}
 use Rattle.rules.specs.Slots.{pick}
 use Rattle.rules.specs.Subscription.{Subscription, subscription, items}
 use Rattle.rules.specs.Relaxation.{kept_by_slot, Edge, by_catalogue, by_ordering, Path, one, more, value, ConsistentRelaxation, value_of}
-use Rattle.rules.specs.Best.{wins_tie, Best, BestOf, Answer, AnswerTo}
-use Rattle.rules.specs.Results.{is_consistent, with_item, better_of, first_best, best_of, best_value, answer_at_nought}
+use Rattle.rules.specs.Best.{wins_tie, Best}
+use Rattle.rules.specs.Results.{with_item, better_of, first_best}
 use Rattle.rules.specs.laws.Sums.{sum_cong, over_none}
-use Rattle.rules.specs.laws.Relaxation.{consistent_in, consistent_out}
-use Rattle.rules.specs.laws.Tie.{best_unique}
 
 -- ---- of all choices on n items that pass a test, the first that is worth most is the best
 module _ (worth : List Bool → ℕ) where
   -- What an answer says of the choices in S.
-  abbrev Says : (List Bool → Type 0) → Option (List Bool) → Type 0
+  abbrev pub Says : (List Bool → Type 0) → Option (List Bool) → Type 0
   Says S none = (r : List Bool) → S r → ⊥
   Says S (some r) = Best worth S r
 
@@ -52,7 +50,7 @@ module _ (worth : List Bool → ℕ) where
       }
 
 -- A choice on n items that passes a test.
-abbrev Passes : ℕ → (List Bool → Bool) → List Bool → Type 0
+abbrev pub Passes : ℕ → (List Bool → Bool) → List Bool → Type 0
 Passes n ok r = (length r ≡ n) × T (ok r)
 
 -- One that begins with b.
@@ -76,7 +74,7 @@ with_item_says worth n ok b (some a) h = record {
     go true r m (inr t) = inr (subst (λ z. T (wins_tie (true ∷ a) z)) (sym m.is) t)
     go false r m (inr t) = inr (subst (λ z. T (wins_tie (false ∷ a) z)) (sym m.is) t)
 
-first_best_says : (n : ℕ) (ok : List Bool → Bool) (worth : List Bool → ℕ) → Says worth (Passes n ok) (first_best n ok worth)
+pub first_best_says : (n : ℕ) (ok : List Bool → Bool) (worth : List Bool → ℕ) → Says worth (Passes n ok) (first_best n ok worth)
 unfolding first_best
 first_best_says zero ok worth = go (ok []) refl
   where
@@ -150,37 +148,3 @@ module _ (s : Lines) where
     where
       v : Subscription
       v = subscription s
-
-  -- THE BEST RELAXATION, of every sheet.
-  pub best_of_is_best : BestOf s (best_of s)
-  unfolding best_of
-  best_of_is_best = go (first_best (items s) (is_consistent s) (value_of s)) refl (first_best_says (items s) (is_consistent s) (value_of s))
-    where
-      to : (r : List Bool) → ConsistentRelaxation s r → Passes (items s) (is_consistent s) r
-      to r k = (k.relaxation.size, consistent_in s r k)
-
-      go : (o : Option (List Bool)) → first_best (items s) (is_consistent s) (value_of s) ≡ o → Says (value_of s) (Passes (items s) (is_consistent s)) o → BestOf s (best_of s)
-      go none e h = absurd (h (none_kept (items s)) (to (none_kept (items s)) dropping_all_is_consistent))
-      go (some r) e h = rw e (record {
-        allowed = consistent_out s r h.allowed.1;
-        top = λ q k. h.top q (to q k);
-        tie = λ q k. h.tie q (to q k);
-      })
-
-  pub best_of_only : (r : List Bool) → BestOf s r → r ≡ best_of s
-  best_of_only r b = best_unique (value_of s) r (best_of s) b best_of_is_best
-
-  -- ---- the answer at tolerance 0
-  pub answer_at_nought_is : AnswerTo s 0 (answer_at_nought s)
-  unfolding answer_at_nought best_value
-  answer_at_nought_is = record { allowed = best_of_is_best.allowed; worth = refl; top = best_of_is_best.top; near = omega arith; best = λ _. best_of_is_best }
-
-  -- Two answers at tolerance 0 are EQUAL: relaxation, value and ceiling.
-  pub answer_at_nought_only : (a : Answer) → AnswerTo s 0 a → a ≡ answer_at_nought s
-  unfolding answer_at_nought best_value
-  answer_at_nought_only a h =
-      let e = best_of_only a.relaxation (h.best refl) in
-      let w : a.value ≡ value_of s (best_of s) = sym h.worth ∙ ap (value_of s) e in
-      let low = h.top a.relaxation h.allowed in let near = h.near in let worth = h.worth in
-      let c : a.ceiling ≡ value_of s (best_of s) = omega arith in
-      λ i. record { relaxation = e i; value = w i; ceiling = c i }

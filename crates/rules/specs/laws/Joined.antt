@@ -32,6 +32,7 @@ weaken f g (join {j = j} p t q) = join (weaken f g p) (g j t) (weaken f g q)
 -- ---- the test and the relation
 pub through_join : (b : ℕ → ℕ → Bool) (cs : List ℕ) (i c j : ℕ) → T (through b cs i c) → Memᴰ c cs → T (through b cs c j) → T (through b cs i j)
 unfolding through
+through_join b [] i c j p x3 q = elim x3 [ ]
 through_join b (d ∷ ds) i c j p (Memᴰ.head e) q = or_r (through b ds i j) _ (and_i (through b ds i d) _ (left i p) (right j q))
   where
     left : (x : ℕ) → T (through b (d ∷ ds) x c) → T (through b ds x d)

@@ -49,6 +49,7 @@ bool_ext false false h k = refl
 
 -- ---- some or every element of a list
 pub some_of_in {ℓ} : {A : Type ℓ} (p : A → Bool) (xs : List A) (x : A) → Memᴰ x xs → T (p x) → T (some_of p xs)
+some_of_in {A = A} p [] x x4 t = elim x4 [ ]
 some_of_in p (y ∷ ys) x (Memᴰ.head e) t = or_l (p y) _ (subst (λ z. T (p z)) e t)
 some_of_in p (y ∷ ys) x (Memᴰ.tail m) t = or_r (p y) _ (some_of_in p ys x m t)
 
@@ -61,6 +62,7 @@ some_of_out {A} p (y ∷ ys) t = step (some_of_out p ys) (or_e (p y) _ t)
     step below (inr u) = let (x, m, w) = below u in (x, Memᴰ.tail m, w)
 
 pub every_of_at {ℓ} : {A : Type ℓ} (p : A → Bool) (xs : List A) → T (every_of p xs) → (x : A) → Memᴰ x xs → T (p x)
+every_of_at {A = A} p [] t x x4 = elim x4 [ ]
 every_of_at p (y ∷ ys) t x (Memᴰ.head e) = subst (λ z. T (p z)) (sym e) (and_l (p y) _ t)
 every_of_at p (y ∷ ys) t x (Memᴰ.tail m) = every_of_at p ys (and_r (p y) _ t) x m
 

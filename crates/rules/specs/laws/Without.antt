@@ -8,6 +8,7 @@ use Rattle.rules.specs.Sequence.{cons_unless, without}
 
 pub without_in : (x : ℕ) (l : List ℕ) (y : ℕ) → Memᴰ y l → (x ≡ y → ⊥) → Memᴰ y (without x l)
 unfolding without
+without_in x [] y x3 n = elim x3 [ ]
 without_in x (z ∷ l) y (Memᴰ.head e) n = go (eqb x z) (λ t. eqb→eq x z t)
   where
     go : (b : Bool) → (T b → x ≡ z) → Memᴰ y (cons_unless b z (without x l))
@@ -43,6 +44,7 @@ without_le x (z ∷ l) = go (eqb x z) (without_le x l)
 
 pub without_lt : (x : ℕ) (l : List ℕ) → Memᴰ x l → length (without x l) < length l
 unfolding without
+without_lt x [] x'' = elim x'' [ ]
 without_lt x (z ∷ l) (Memᴰ.head e) = go (eqb x z) (subst (λ w. T (eqb x w)) e (eqb_refl x)) (without_le x l)
   where
     go : (b : Bool) → T b → length (without x l) ≤ length l → length (cons_unless b z (without x l)) < suc (length l)

@@ -3,12 +3,7 @@ pub mod Finds
 pub mod Reduces
 pub mod Valued
 pub mod Passes
-pub mod Seek
 pub mod Items
 pub mod Residual
 pub mod Charged
-pub mod Loose
-pub mod Places
-pub mod Keepable
-pub mod Fights
 pub mod Answers

@@ -2,7 +2,7 @@
 use Rattle.std.specs.Prelude.{◌≡◌, refl, Bool, true, false, ℕ, ◌≤◌, ◌<◌, T}
 use Rattle.std.proofs.Common.{sym, subst, ap, ◌∙◌, arith}
 use Rattle.rules.specs.Results.{answer_at_nought}
-use Rattle.rules.specs.laws.Best.{answer_at_nought_only}
+use Rattle.rules.proofs.laws.Best.{answer_at_nought_only}
 use Rattle.sheet.specs.IsRecorded.{is_recorded}
 use Rattle.sheet.specs.Limits.{largest_value}
 use Rattle.sheet.specs.Lines.{lines_of}

@@ -21,8 +21,8 @@ use Rattle.sheet.proofs.PassLaws.{recorded_passes}
 use Rattle.rules.specs.Sequence.{SequenceOf, Ordered, NoLater}
 use Rattle.rules.specs.Relaxation.{ConsistentRelaxation}
 use Rattle.rules.specs.laws.Decisions.{just_the_kept}
-use Rattle.rules.specs.laws.Relaxation.{consistent_in, consistent_out}
-use Rattle.rules.specs.laws.Sequence.{has_sequence_iff_consistent, sequence_is_smallest, sequence_of_choice_is, sequence_of_full}
+use Rattle.rules.proofs.laws.Relaxation.{consistent_in, consistent_out}
+use Rattle.rules.proofs.laws.Sequence.{has_sequence_iff_consistent, sequence_is_smallest, sequence_of_choice_is, sequence_of_full}
 use Rattle.sheet.specs.declared.sheet.Sheet.{Sheet}
 use Rattle.sheet.specs.declared.decision.Decisions.{Decisions}
 use Rattle.sheet.specs.declared.answer.Answer.TheVariants.{Accepted}

@@ -9,10 +9,10 @@ use Rattle.rules.specs.Decisions.{Decision, DecidedBySlot, decided_by_slot, Agre
 use Rattle.rules.specs.Forced.{NoContradiction, contradiction, decision_of, forced}
 use Rattle.rules.specs.Limits.{M, K, D}
 use Rattle.rules.specs.laws.Forced.{no_contradiction}
-use Rattle.rules.specs.laws.Computed.{no_contradiction_in, no_contradiction_out}
-use Rattle.rules.specs.laws.Limits.{whole_upper_holds}
+use Rattle.rules.proofs.laws.Computed.{no_contradiction_in, no_contradiction_out}
+use Rattle.rules.proofs.laws.Limits.{whole_upper_holds}
 use Rattle.rules.specs.laws.OnSlots.{agrees_by_slot, consistent_by_slot, on_the_sheet}
-use Rattle.rules.specs.laws.ForcedList.{agrees_with_forced, forced_agrees, forcing_opens_nothing, least_is_consistent, least_is_worth_K}
+use Rattle.rules.proofs.laws.ForcedList.{agrees_with_forced, forced_agrees, forcing_opens_nothing, least_is_consistent, least_is_worth_K}
 use Rattle.rules.specs.laws.Decisions.{just_the_kept}
 use Rattle.rules.specs.laws.search.Reduces.{Reduces, reduces_forced}
 use Rattle.rows.specs.Bits.{has}

@@ -15,10 +15,10 @@ use Rattle.rules.specs.Forced.{contradiction, decision_of, forced}
 use Rattle.rules.specs.laws.search.Items.{Item, option, ordering}
 use Rattle.rules.specs.laws.search.Residual.{Residual, held}
 use Rattle.rules.specs.laws.search.Charged as R
-use Rattle.rules.specs.laws.search.Loose as L
-use Rattle.rules.specs.laws.search.Places.{item_at}
-use Rattle.rules.specs.laws.search.Keepable.{Keepable, AsForcedOrKept, as_forced, kept_too, KeepsKeepable, charged_fits, charged_limit_holds}
-use Rattle.rules.specs.laws.search.Keepable as K
+use Rattle.rules.proofs.laws.search.Loose as L
+use Rattle.rules.proofs.laws.search.Places.{item_at}
+use Rattle.rules.proofs.laws.search.Keepable.{Keepable, AsForcedOrKept, as_forced, kept_too, KeepsKeepable, charged_fits, charged_limit_holds}
+use Rattle.rules.proofs.laws.search.Keepable as K
 use Rattle.rows.specs.Bits.{has}
 use Rattle.rows.specs.laws.Sets.{holds_at}
 use Rattle.graph.specs.Shown.{counted}

@@ -6,9 +6,10 @@ use Rattle.rules.specs.Subscription.{items}
 use Rattle.rules.specs.Relaxation.{ConsistentRelaxation, value_of}
 use Rattle.rules.specs.Decisions.{Decision, Open, Kept, is_open, open_items}
 use Rattle.rules.specs.Forced.{decision_of}
-use Rattle.rules.specs.laws.ForcedList.{forcing_opens_nothing}
-use Rattle.rules.specs.laws.search.Reduces.{Reduces, Above, reduces_then}
-use Rattle.rules.specs.laws.search.Keepable.{reduces_keepable, keeping_closes_one}
+use Rattle.rules.proofs.laws.ForcedList.{forcing_opens_nothing}
+use Rattle.rules.specs.laws.search.Reduces.{Reduces, Above}
+use Rattle.rules.proofs.laws.search.Reduces.{reduces_then}
+use Rattle.rules.proofs.laws.search.Keepable.{reduces_keepable, keeping_closes_one}
 use Rattle.rows.specs.Bits.{has}
 use Rattle.rows.specs.laws.Sets.{holds_at}
 use Rattle.forced.specs.Forced.{ForcedBy}

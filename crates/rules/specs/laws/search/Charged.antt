@@ -1,14 +1,13 @@
 -- Charged conflicts: the invariant of the charges, and the upper limit that they give.
-use Rattle.std.specs.Prelude.{not, ℕ, ◌+◌, ◌≤◌, T}
+use Rattle.std.specs.Prelude.{ℕ, ◌+◌, ◌≤◌}
 use mathlib.Core.List.{List, Memᴰ}
 use Rattle.std.proofs.Common.{arith}
 use Rattle.rules.specs.Subscription.{Subscription}
-use Rattle.rules.specs.Relaxation.{KeptBySlot, value}
+use Rattle.rules.specs.Relaxation.{KeptBySlot}
 use Rattle.rules.specs.Decisions.{DecidedBySlot}
-use Rattle.rules.specs.Limits.{M, D}
 use Rattle.rules.specs.laws.BySlot.{ConsistentBySlot, AgreesBySlot}
-use Rattle.rules.specs.laws.search.Items.{Item, keeps, conflict, drops_one}
-use Rattle.rules.specs.laws.search.Residual.{Residual, Lower, held, lost, open_weights, held_lost, held_falls, value_lost}
+use Rattle.rules.specs.laws.search.Items.{Item}
+use Rattle.rules.specs.laws.search.Residual.{Residual, Lower, held, lost, open_weights}
 
 -- One charge of e on a list of items: residuals only fall, and each member's consequences fall by at least e together.
 pub record Charge (v : Subscription) (l : List Item) (e : ℕ) (r s : Residual) : Type 0 where
@@ -22,21 +21,3 @@ module _ (v : Subscription) (d : DecidedBySlot) where
 
   pub charged_none : Charged 0 (open_weights v d)
   charged_none = record { covers = λ c ok ag. omega arith }
-
-  -- Each charge of a conflict keeps it.
-  pub charged_more : (l : List Item) (e k : ℕ) (r s : Residual) → T (conflict v d l) → Charge v l e r s → Charged k r → Charged (k + e) s
-  charged_more l e k r s t ch h = record {
-    covers = λ c ok ag.
-        let (x, m, n) = drops_one v d c ok ag l t in
-        let a = h.covers c ok ag in
-        let b = ch.taken x m in
-        let f = held_falls v c ok r s ch.lower x n in omega arith;
-  }
-
-  -- THE UPPER LIMIT: value + dropped + charged is at most the whole.
-  pub charged_upper : (k : ℕ) (r : Residual) → Charged k r → (c : KeptBySlot) → ConsistentBySlot v c → AgreesBySlot d c → value v c + D v d + k ≤ M v d
-  charged_upper k r h c ok ag = let a = h.covers c ok ag in let b = value_lost v d c ok ag in omega arith
-
-  -- What drops an item loses what its consequences hold on top of it.
-  pub dropped_upper : (k : ℕ) (r : Residual) → Charged k r → (x : Item) (c : KeptBySlot) → ConsistentBySlot v c → AgreesBySlot d c → T (not (keeps c x)) → value v c + D v d + k + held v r x ≤ M v d
-  dropped_upper k r h x c ok ag n = let a = h.covers c ok ag in let b = value_lost v d c ok ag in let f = held_lost v c ok r x n in omega arith

@@ -6,14 +6,13 @@ use native.Mathlib.Omega.{arith}
 use Rattle.std.proofs.Math.Dec.{T_not, not_T}
 use Rattle.rules.specs.Slots.{pick, over}
 use Rattle.rules.specs.Subscription.{Subscription}
-use Rattle.rules.specs.Relaxation.{KeptBySlot, value}
+use Rattle.rules.specs.Relaxation.{KeptBySlot}
 use Rattle.rules.specs.Decisions.{DecidedBySlot}
 use Rattle.rules.specs.KnownBefore.{touches}
-use Rattle.rules.specs.Limits.{option_open, ordering_open, M, D}
-use Rattle.rules.specs.laws.Tests.{and_l, and_r, or_e}
+use Rattle.rules.specs.Limits.{option_open, ordering_open}
+use Rattle.rules.specs.laws.Tests.{or_e}
 use Rattle.rules.specs.laws.Sums.{sum_add, sum_mono, sum_cong}
-use Rattle.rules.specs.laws.BySlot.{ConsistentBySlot, AgreesBySlot}
-use Rattle.rules.specs.laws.Limits.{taken_off}
+use Rattle.rules.specs.laws.BySlot.{ConsistentBySlot}
 use Rattle.rules.specs.laws.search.Items.{Item, option, ordering, keeps}
 
 -- What is left of each option's and each ordering's weight.
@@ -58,7 +57,7 @@ pick_both true false w = refl
 pick_both false true w = refl
 pick_both false false w = refl
 
-over_both : (n : ℕ) (w : ℕ → ℕ) (q p : ℕ → Bool) → over n (λ i. pick (q i) (w i)) p ≡ over n w (λ i. q i && p i)
+pub over_both : (n : ℕ) (w : ℕ → ℕ) (q p : ℕ → Bool) → over n (λ i. pick (q i) (w i)) p ≡ over n w (λ i. q i && p i)
 over_both n w q p = sum_cong n (λ i. pick (p i) (pick (q i) (w i))) (λ i. pick (q i && p i) (w i)) (λ i _. pick_both (p i) (q i) (w i))
 
 module _ (v : Subscription) where
@@ -105,14 +104,3 @@ module _ (v : Subscription) (d : DecidedBySlot) where
   -- At the start an open item's residual is its weight, any other's 0.
   unfoldable pub open_weights : Residual
   open_weights = record { option = λ i. pick (option_open v d i) (v.weight i); ordering = λ u. pick (ordering_open v d u) (v.ordering_weight u) }
-
-  -- THE BRIDGE TO THE LIMITS: value, what is dropped, and the weight of the open items not kept, make up the whole.
-  pub value_lost : (c : KeptBySlot) → ConsistentBySlot v c → AgreesBySlot d c → value v c + D v d + lost v open_weights c ≤ M v d
-  unfolding open_weights lost
-  value_lost c ok ag =
-      let h = taken_off v d c ok ag (λ i. option_open v d i && not (c.option i)) (λ u. ordering_open v d u && not (c.ordering u))
-      (λ i t n. T_not (c.option i) (and_r (option_open v d i) _ n) t) (λ u t n. T_not (c.ordering u) (and_r (ordering_open v d u) _ n) t)
-      (λ i n. and_l (option_open v d i) _ n) (λ u n. and_l (ordering_open v d u) _ n) in
-      let a = over_both v.option_count v.weight (option_open v d) (λ i. not (c.option i)) in
-      let b = over_both v.ordering_count v.ordering_weight (ordering_open v d) (λ u. not (c.ordering u)) in
-      omega arith

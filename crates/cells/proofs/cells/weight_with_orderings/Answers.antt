@@ -1,0 +1,6 @@
+-- The open options of the set are met first, so only orderings that touch one of these are charged, and each once.
+use Rattle.cells.proofs.laws.Cells.{charge_of_set}
+use Rattle.cells.proofs.cells.weight_with_orderings.Goals as goal
+
+pub returns : goal.returns
+returns c = (charge_of_set c.args.h _ _ _ _ _ _ c.args.set c.meet-x.ensures c.touching-y.ensures c.weigh_both.ensures.0, c.weigh_both.ensures.1)

@@ -1,0 +1,11 @@
+-- Each turn puts one option in, if it is open and its consequences hold something.
+use Rattle.rows.specs.Sets.{Holds}
+use Rattle.chains.specs.Held.{holds_some}
+use Prim.Native.Nat.{◌-◌, ◌≤◌}
+use Rattle.chains.proofs.held.positive_of.Given as goal
+
+abbrev pub invariant-loop-i : goal.invariant-loop-i
+invariant-loop-i l = (l.i ≤ l.n) × Holds l.k l.i (holds_some l.held l.open_options)
+
+abbrev pub decreases-loop-i : goal.decreases-loop-i
+decreases-loop-i l = l.n - l.i

@@ -1,0 +1,6 @@
+-- Options, then orderings.
+use Rattle.decisions.specs.laws.Decisions.{decisions_put}
+use Rattle.decisions.proofs.decisions_out.put_decisions.Goals as goal
+
+pub returns : goal.returns
+returns c = decisions_put c.args.d _ c.put_options.ensures c.put_orderings.ensures

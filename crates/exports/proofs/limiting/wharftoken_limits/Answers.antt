@@ -1,0 +1,39 @@
+-- A refusal changes nothing; a success writes both outputs.
+use native.Mathlib.Omega.{arith}
+use Rattle.wire.specs.laws.Lent.{out_packs}
+use Rattle.exports.specs.laws.Limits.{limits_placed, limits_untouched, limits_shown}
+use Rattle.std.proofs.Common.{ap}
+use Rattle.std.specs.Prelude.{not}
+use Rattle.exports.proofs.limiting.wharftoken_limits.Goals as goal
+
+-- paths? c.lent_both-answer
+pub pack_answer-requires : goal.pack_answer-requires
+pack_answer-requires c =
+    out_packs _ _
+    c.lent_both-answer.ensures.0
+    c.is_accepted.ensures
+    (limits_placed _ _ c.limits_in-x.ensures)
+    _ (omega arith)
+
+-- paths? c.lent_both-answer
+pub returns-then-not-is_accepted : goal.returns-then-not-is_accepted
+returns-then-not-is_accepted c =
+    limits_untouched _ _ _ _
+    c.limits_in-x.ensures
+    c.lent_both-answer.ensures
+    c.is_accepted.ensures
+    (ap not c.if-not-is_accepted.true)
+    c.pack_answer.ensures
+
+-- paths? c.lent_both-answer
+pub returns : goal.returns
+returns c =
+    limits_shown _ _ _ _
+    c.limits_in-x.ensures
+    c.lent_both-answer.ensures
+    c.is_accepted.ensures
+    (ap not c.if-not-is_accepted.false)
+    c.put_decisions.ensures
+    c.put_limits.ensures
+    c.contradictions-count.ensures.0
+    c.pack_answer-2.ensures

@@ -1,0 +1,6 @@
+-- What the writer answers, packed.
+use Rattle.exports.specs.laws.Written.{write_packs}
+use Rattle.exports.proofs.texts.wharftoken_write.Goals as goal
+
+pub pack_answer-requires : goal.pack_answer-requires
+pack_answer-requires c = write_packs _ _ c.record_in-s.ensures c.write-w.ensures.0

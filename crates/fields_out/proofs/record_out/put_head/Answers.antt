@@ -1,0 +1,14 @@
+-- One part after the other.
+use Rattle.fields_out.specs.laws.Put.{head_put}
+use Rattle.fields_out.proofs.record_out.put_head.Goals as goal
+
+-- paths? c.before.before.before.before.before.before.before.before.before.before.before.before.before.before.before.before.before.before.before.before.before.before.before.before.before.before
+pub returns : goal.returns
+returns c =
+    let start = c.before.before.before.before.before.before.before.before.before.before.before.before.before.before.before.before.before.before.before.before.before.before.before.before.before.before in
+    head_put start.args.s start.args.out.now
+    c.put_two.ensures
+    c.put_two-2.ensures
+    c.put_two-3.ensures
+    c.put_twos_32.ensures
+    c.put_twos_64.ensures

@@ -1,0 +1,16 @@
+-- One part after the other.
+use Rattle.fields_out.specs.laws.Put.{tail_put}
+use Rattle.fields_out.proofs.record_out.put_tail.Goals as goal
+
+-- paths? c.before.before.before.before.before.before.before.before.before.before.before.before.before.before.before
+pub returns : goal.returns
+returns c =
+    let later = c.before.before.before.before.before.before.before.before.before.before.before.before.before.before.before in
+    let start = later.before.before.before.before.before.before.before.before.before.before.before.before.before.before.before.before in
+    tail_put start.args.s start.args.out.now
+    c.put_bytes_512.ensures
+    c.put_bytes_512-2.ensures
+    c.put_bytes_512-3.ensures
+    c.put_bytes_32.ensures
+    c.put_bytes_64.ensures
+    c.put_bytes_64-2.ensures

@@ -1,0 +1,13 @@
+-- Each turn puts one ordering in if it is given, or against what is known.
+use mathlib.Core.Bool.{◌||◌}
+use Prim.Native.Nat.{◌-◌, ◌≤◌}
+use lib.ListN.{get_or}
+use Rattle.rows.specs.Bits.{has}
+use Rattle.rows.specs.Sets.{Holds}
+use Rattle.forced.proofs.parts.dropped_orderings.Given as goal
+
+abbrev pub invariant-loop-u : goal.invariant-loop-u
+invariant-loop-u l = (l.u ≤ l.m) × Holds l.k l.u (λ j. has l.given j || (has l.dropped (get_or l.first j 0) || (has l.dropped (get_or l.second j 0) || has (get_or l.t (get_or l.second j 0) 0) (get_or l.first j 0))))
+
+abbrev pub decreases-loop-u : goal.decreases-loop-u
+decreases-loop-u l = l.m - l.u

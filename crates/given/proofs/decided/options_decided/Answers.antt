@@ -1,0 +1,11 @@
+-- Each turn writes one entry.
+use mathlib.Core.Path.{refl, ◌∙◌}
+use native.Mathlib.Omega.{arith}
+use Rattle.given.specs.laws.Filled.{filled_none, filled_step}
+use Rattle.given.proofs.decided.options_decided.Goals as goal
+
+pub loop-i-init : goal.loop-i-init
+loop-i-init c = (omega arith, filled_none 32 _ _)
+
+pub loop-i-preserved : goal.loop-i-preserved
+loop-i-preserved c = (omega arith, filled_step 32 _ _ c.loop-i.invariant.1 (omega arith) (c.decided-c.ensures ∙ rw (c.get-y.ensures, c.get-x.ensures) refl))

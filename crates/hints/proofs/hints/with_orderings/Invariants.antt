@@ -1,0 +1,9 @@
+-- Safe and ending: orderings are counted up.
+use Rattle.std.proofs.Common.{◌-◌, ◌≤◌}
+use Rattle.hints.proofs.hints.with_orderings.Given as goal
+
+abbrev pub invariant-loop-u : goal.invariant-loop-u
+invariant-loop-u l = l.u ≤ l.m
+
+abbrev pub decreases-loop-u : goal.decreases-loop-u
+decreases-loop-u l = l.m - l.u

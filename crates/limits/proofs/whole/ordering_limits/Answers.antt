@@ -1,0 +1,10 @@
+-- Each turn writes one entry.
+use native.Mathlib.Omega.{arith}
+use Rattle.given.specs.laws.Filled.{filled_none, filled_step}
+use Rattle.limits.proofs.whole.ordering_limits.Goals as goal
+
+pub loop-u-init : goal.loop-u-init
+loop-u-init c = (omega arith, rw c.no_limit-z.ensures (filled_none 64 _ _))
+
+pub loop-u-preserved : goal.loop-u-preserved
+loop-u-preserved c = (omega arith, filled_step 64 _ _ c.loop-u.invariant.1 (omega arith) c.ordering_limit-x.ensures)

@@ -1,0 +1,7 @@
+use Rattle.rows.specs.Bits.{has}
+use borrow.Author.Rules.{rules}
+use Rattle.rows.proofs.get64.Goals as goal
+
+pub returns : goal.returns
+unfolding has
+returns c = search rules

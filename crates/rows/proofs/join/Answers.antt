@@ -1,0 +1,7 @@
+use Rattle.rows.specs.Bits.{joined}
+use borrow.Author.Rules.{rules}
+use Rattle.rows.proofs.join.Goals as goal
+
+pub returns : goal.returns
+unfolding joined
+returns c = search rules

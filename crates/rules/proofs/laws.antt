@@ -1,0 +1,11 @@
+pub mod Computed
+pub mod Limits
+pub mod ForcedList
+pub mod Contradiction
+pub mod OpenChoices
+pub mod LimitsHold
+pub mod Relaxation
+pub mod Sequence
+pub mod Tie
+pub mod Best
+pub mod search

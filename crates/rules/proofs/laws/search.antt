@@ -1,0 +1,10 @@
+pub mod Finds
+pub mod Reduces
+pub mod Seek
+pub mod Items
+pub mod Residual
+pub mod Charged
+pub mod Loose
+pub mod Places
+pub mod Keepable
+pub mod Fights

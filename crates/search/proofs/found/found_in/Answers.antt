@@ -1,0 +1,13 @@
+-- What the branch leaves is an answer by the law `found_answers`.
+use mathlib.Core.Path.{sym, subst, ap}
+use native.Mathlib.Omega.{arith}
+use Rattle.keeping.specs.Sets.{Apart}
+use Rattle.keeping.specs.laws.Apart.{nothing_apart}
+use Rattle.search.specs.laws.Found.{found_answers}
+use Rattle.search.proofs.found.found_in.Goals as goal
+
+pub branch-b-requires : goal.branch-b-requires
+branch-b-requires c = (c.requires.0, subst (Apart _ _) (sym c.nothing_given-g.ensures) (nothing_apart _ _), (let e = ap (λ z. z.goal) c.nothing_found-a.ensures in let k = c.bounds_of-bounds.ensures.small in omega arith), c.requires.1)
+
+pub returns : goal.returns
+returns c = found_answers _ _ _ _ _ _ _ _ _ c.bounds_of-bounds.ensures _ c.nothing_given-g.ensures _ _ c.nothing_found-a.ensures c.branch-b.ensures _ _ c.worth-value.ensures c.least-ceiling.ensures

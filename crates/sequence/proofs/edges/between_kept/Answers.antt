@@ -1,0 +1,7 @@
+-- Each turn writes one row: what it holds among the kept options, or nothing if its own option is not kept.
+use native.Mathlib.Omega.{arith}
+use Rattle.sequence.specs.laws.Edges.{between_step}
+use Rattle.sequence.proofs.edges.between_kept.Goals as goal
+
+pub loop-i-preserved : goal.loop-i-preserved
+loop-i-preserved c = (omega arith, between_step _ _ c.loop-i.invariant.1 (omega arith) c.meet-x.ensures c.get-yes.ensures c.join_if-y.ensures)

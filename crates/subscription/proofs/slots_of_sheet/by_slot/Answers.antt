@@ -1,0 +1,52 @@
+-- The record's rule gives what each part asks for; the law `shown_by` puts the parts together.
+use native.Mathlib.Omega.{arith}
+use borrow.Author.Rules.{rules}
+use Rattle.sheet.specs.Recorded.{Recorded}
+use Rattle.sheet.proofs.ObeyLaws.{passes_recorded}
+use Rattle.subscription.specs.laws.Shown.{numbers_differing, shown_by}
+use Rattle.subscription.proofs.slots_of_sheet.by_slot.Goals as goal
+use Rattle.subscription.proofs.slots_of_sheet.by_slot.Goals.{Start}
+
+obeys : (c : Start) → Recorded c.args.s
+obeys c = passes_recorded c.args.s (record {
+  letters = search (rules, c.well_formed);
+  befores = search (rules, c.well_formed);
+  afters = search (rules, c.well_formed);
+  numbers = search (rules, c.well_formed);
+  weights = search (rules, c.well_formed);
+  firsts = search (rules, c.well_formed);
+  seconds = search (rules, c.well_formed);
+  ordering_weights = search (rules, c.well_formed);
+}) c.requires
+
+pub slot_table-table-requires : goal.slot_table-table-requires
+slot_table-table-requires c = let R = obeys (goal.at.slot_table-table-requires c).Start in (numbers_differing _ R, R.few_options)
+
+pub catalogue_rows-rows-requires : goal.catalogue_rows-rows-requires
+catalogue_rows-rows-requires c =
+    let R = obeys (goal.at.catalogue_rows-rows-requires c).Start in
+    let k = R.few_catalogue in
+    let L = R.lengths in
+    record { n_bound = (R.few_options, c.slot_table-table.ensures.size); lines_in_bounds = (omega arith, omega arith, omega arith) }
+
+pub slots_of-firsts-requires : goal.slots_of-firsts-requires
+slots_of-firsts-requires c =
+    let R = obeys (goal.at.slots_of-firsts-requires c).Start in
+    let k = R.few_orderings in
+    let L = R.lengths in
+    (c.slot_table-table.ensures.size, k, omega arith)
+
+pub slots_of-seconds-requires : goal.slots_of-seconds-requires
+slots_of-seconds-requires c =
+    let R = obeys (goal.at.slots_of-seconds-requires c).Start in
+    let k = R.few_orderings in
+    let L = R.lengths in
+    (c.slot_table-table.ensures.size, k, omega arith)
+
+pub returns : goal.returns
+returns c =
+    let t = c.slot_table-table.ensures in
+    shown_by _ (obeys (goal.at.returns c).Start) _ _ _
+    (c.catalogue_rows-rows.ensures.of _ t)
+    (c.slots_of-firsts.ensures.of _ _ t)
+    (c.slots_of-seconds.ensures.of _ _ t)

@@ -1,9 +1,9 @@
-//! Links the proved library, which `rt staticlib exports` writes.
+//! Links the proved library, which `rt lib` writes in crates/exports.
 
 use std::path::Path;
 
 fn main() {
-    let folder = Path::new(env!("CARGO_MANIFEST_DIR")).join("../../target/staticlib");
+    let folder = Path::new(env!("CARGO_MANIFEST_DIR")).join("../../crates/exports/out");
     let library = folder.join("libexports.a");
     println!("cargo::rerun-if-changed={}", library.display());
     if library.is_file() {
@@ -11,7 +11,7 @@ fn main() {
         println!("cargo::rustc-link-lib=static=exports");
     } else {
         println!(
-            "cargo::error=target/staticlib/libexports.a is missing: run `rt staticlib exports` at the top of the project first"
+            "cargo::error=crates/exports/out/libexports.a is missing: run `rt lib` in crates/exports first"
         );
     }
 }

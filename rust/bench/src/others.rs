@@ -13,9 +13,9 @@ pub struct Others {
     pub values: Vec<(usize, u32)>,
 }
 
-/// The reporting program, as `rt check wharftoken` builds it.
+/// The reporting program, as `rt ci` builds it.
 pub fn program() -> Option<PathBuf> {
-    let built = Path::new(env!("CARGO_MANIFEST_DIR")).join("../../target/bin/wharftoken");
+    let built = Path::new(env!("CARGO_MANIFEST_DIR")).join("../../crates/wharftoken/out/wharftoken");
     built.is_file().then_some(built)
 }
 

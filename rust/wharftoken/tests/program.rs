@@ -12,11 +12,11 @@ use twin::{damage, random};
 
 fn started() -> Child {
     let folder = PathBuf::from(env!("CARGO_MANIFEST_DIR"));
-    Command::new(folder.join("../../target/bin/wharftoken"))
+    Command::new(folder.join("../../crates/wharftoken/out/wharftoken"))
         .stdin(Stdio::piped())
         .stdout(Stdio::piped())
         .spawn()
-        .expect("the program is built by `rt check wharftoken`")
+        .expect("the program is built by `rt ci`, or `rt run` in crates/wharftoken")
 }
 
 /// What the program prints for a text that comes in these pieces, with a pause after each.

@@ -19,7 +19,7 @@ fn compiled(source: &str, name: &str) -> Option<PathBuf> {
     let output = Command::new("cc")
         .args(["-std=c99", "-Wall", "-Wextra", "-pedantic", "-Werror"])
         .args(["-I", "include", source])
-        .args(["target/staticlib/libexports.a", "-o"])
+        .args(["crates/exports/out/libexports.a", "-o"])
         .arg(&program)
         .current_dir(top())
         .output();

@@ -1,7 +1,7 @@
 /* Wharftoken: order sheets of boat control heads.
  *
- * The functions of target/staticlib/libexports.a (`rt staticlib exports`), for x86-64. They are
- * proved to do what is said here; that these declarations are theirs is tested, not proved.
+ * The functions of crates/exports/out/libexports.a (`rt lib` in crates/exports), for x86-64. They
+ * are proved to do what is said here; that these declarations are theirs is tested, not proved.
  *
  * No function asks anything of its caller but that each pointer is not null and has the room that
  * the length after it says, and that lent memory overlaps nothing. None keeps a pointer, takes

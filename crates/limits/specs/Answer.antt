@@ -42,7 +42,7 @@ nothing_limited = record {
   orderings = replicate 64 no_limit;
 }
 
--- A refusal, whose number is `number_of_lem why`, at 0, 0.
+-- A refusal, whose number is `number_of why`, at 0, 0.
 abbrev pub limits_refused : Refusal → LimitsAnswer
 limits_refused why = record { answer = Refused (record { line = 0; column = 0 }) why; limits = nothing_limited }
 

@@ -14,7 +14,7 @@ use sheet::{Answer, Judged, Sheet};
 // The record with a C or X line, which is entry i and begins with `letter`.
 fn put_catalogue_line(s: Sheet, i: usize, letter: u8, h: Numbers) -> Sheet
     requires i_bound { i < 512 }
-    requires first_bound { (h.first ≤ 250) × (h.second ≤ 250) }
+    requires numbers_bound { (h.first ≤ 250) × (h.second ≤ 250) }
     ensures { result ≡ with_catalogue_line s i (catalogue_letter letter) h.first h.second }
 {
     let mut next = s;
@@ -31,7 +31,7 @@ fn put_catalogue_line(s: Sheet, i: usize, letter: u8, h: Numbers) -> Sheet
 // The record with an F line, which is entry i.
 fn put_option(s: Sheet, i: usize, h: Numbers) -> Sheet
     requires i_bound { i < 32 }
-    requires first_bound { (h.first ≤ 250) × (h.second ≤ 9999) }
+    requires numbers_bound { (h.first ≤ 250) × (h.second ≤ 9999) }
     ensures { result ≡ with_option s i h.first h.second }
 {
     let mut next = s;
@@ -43,7 +43,7 @@ fn put_option(s: Sheet, i: usize, h: Numbers) -> Sheet
 // The record with a U line, which is entry i.
 fn put_ordering(s: Sheet, i: usize, h: Numbers) -> Sheet
     requires i_bound { i < 64 }
-    requires first_bound { (h.first ≤ 250) × ((h.second ≤ 250) × (h.third ≤ 9999)) }
+    requires numbers_bound { (h.first ≤ 250) × ((h.second ≤ 250) × (h.third ≤ 9999)) }
     ensures { result ≡ with_ordering s i h.first h.second h.third }
 {
     let mut next = s;
@@ -95,9 +95,9 @@ fn put_line(
     s: Sheet,
 ) -> Sheet
     requires within_limits { WithinLimits f u n }
-    requires le_n { 1 ≤ n }
+    requires n_from_1 { 1 ≤ n }
     requires section_value { section ≡ section_of f u n }
-    requires s_value { judged_line f u section n h s ≡ Fine }
+    requires is_fine { judged_line f u section n h s ≡ Fine }
     ensures { result ≡ stored_line f u section n letter h s }
 {
     match section {
@@ -111,7 +111,7 @@ fn put_line(
 // The lines from the first up to line `stop`, and then the answer a.
 pub fn read_lines(s: &[u8], f: usize, u: usize, stop: usize, a: Answer, start: Sheet) -> Reading
     requires within_limits { WithinLimits f u (stop - 1) }
-    requires le_stop { 1 ≤ stop }
+    requires stop_from_1 { 1 ≤ stop }
     ensures { result ≡ read_lines f u a (stop - 1) 1 s.now start }
 {
     let mut sheet = start;

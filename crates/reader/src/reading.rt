@@ -30,7 +30,7 @@ fn bad_trailer(f: usize, u: usize, t: usize, n: usize) -> bool
 // The lines before the trailer, which is line t and begins at `at`.
 fn read_body(s: &[u8], at: usize, f: usize, u: usize, t: usize) -> Reading
     requires within_limits { WithinLimits f u (t - 1) }
-    requires le_f { (1 ≤ f) × (u ≤ t) }
+    requires sections_in_order { (1 ≤ f) × (u ≤ t) }
     requires at_in_bounds { (at ≤ length s.now) × (t ≡ suc (line_ends (take at s.now))) }
     ensures { result ≡ read_body f u s.now (sized (f - 1) (u - f) (t - u)) t (first_misshapen f u (take at s.now)) }
 {
@@ -48,7 +48,7 @@ fn read_body(s: &[u8], at: usize, f: usize, u: usize, t: usize) -> Reading
 // A sheet whose last line is a well-shaped trailer: it begins at `at`, is line n and has the numbers f, u, t.
 fn read_trailed(s: &[u8], at: usize, n: usize, f: usize, u: usize, t: usize) -> Reading
     requires at_in_bounds { (at ≤ length s.now) × (n ≡ suc (line_ends (take at s.now))) }
-    requires f_bound { (f < 4294967296) × (u < 4294967296) }
+    requires numbers_bound { (f < 4294967296) × (u < 4294967296) }
     ensures { result ≡ read_trailed s.now at n f u t }
 {
     if bad_trailer(f, u, t, n) {

@@ -56,9 +56,9 @@ fn all_zero_weights(l: &[u16], at: usize) -> bool
 
 // Whether the first n catalogue entries could be lines.
 fn catalogue_fine(letters: &[u8], befores: &[u8], afters: &[u8], n: usize) -> bool
-    requires n_in_bounds { n ≤ length letters.now }
-    requires n_in_bounds_2 { n ≤ length befores.now }
-    requires n_in_bounds_3 { n ≤ length afters.now }
+    requires enough_letters { n ≤ length letters.now }
+    requires enough_befores { n ≤ length befores.now }
+    requires enough_afters { n ≤ length afters.now }
     ensures { result ≡ catalogue_fine n 0 letters.now befores.now afters.now }
 {
     let mut i: usize = 0;
@@ -86,8 +86,8 @@ fn catalogue_fine(letters: &[u8], befores: &[u8], afters: &[u8], n: usize) -> bo
 
 // Whether the first n options could be F lines.
 fn options_fine(numbers: &[u8], weights: &[u16], n: usize) -> bool
-    requires n_in_bounds { n ≤ length numbers.now }
-    requires n_in_bounds_2 { n ≤ length weights.now }
+    requires enough_numbers { n ≤ length numbers.now }
+    requires enough_weights { n ≤ length weights.now }
     ensures { result ≡ options_fine n 0 numbers.now weights.now }
 {
     let mut i: usize = 0;
@@ -118,9 +118,9 @@ fn orderings_fine(
     weights: &[u16],
     n: usize,
 ) -> bool
-    requires n_in_bounds { n ≤ length firsts.now }
-    requires n_in_bounds_2 { n ≤ length seconds.now }
-    requires n_in_bounds_3 { n ≤ length weights.now }
+    requires enough_firsts { n ≤ length firsts.now }
+    requires enough_seconds { n ≤ length seconds.now }
+    requires enough_weights { n ≤ length weights.now }
     ensures { result ≡ orderings_fine n 0 subscribed.now firsts.now seconds.now weights.now }
 {
     let mut i: usize = 0;
@@ -200,8 +200,8 @@ fn orderings_recorded<'a>(
     weights: &'a [u16],
     n: usize,
 ) -> bool
-    requires m_in_bounds { m ≤ length numbers.now }
-    requires n_in_bounds { (n ≤ length firsts.now) × ((n ≤ length seconds.now) × (n ≤ length weights.now)) }
+    requires enough_numbers { m ≤ length numbers.now }
+    requires enough_entries { (n ≤ length firsts.now) × ((n ≤ length seconds.now) × (n ≤ length weights.now)) }
     ensures { result ≡ orderings_recorded n (take m numbers.now) firsts.now seconds.now weights.now }
 {
     if !orderings_fine(&numbers[..m], firsts, seconds, weights, n) {

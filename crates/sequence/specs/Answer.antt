@@ -14,7 +14,7 @@ use Rattle.sheet.specs.declared.decision.Decisions.{Decisions}
 use Rattle.sheet.specs.declared.count.Number.{Number}
 use Rattle.sequence.specs.declared.answer.Sequenced.{Sequenced}
 
--- A refusal, whose number is `number_of_lem why`, at 0, 0.
+-- A refusal, whose number is `number_of why`, at 0, 0.
 abbrev pub sequence_refused : Refusal → Sequenced
 sequence_refused why = record { answer = Refused (record { line = 0; column = 0 }) why; places = places_of 32 [] }
 

@@ -15,8 +15,8 @@ fn put_catalogue(
     afters: &[u8],
     n: usize,
 ) -> usize
-    requires n_in_bounds { (n ≤ length letters.now) × ((n ≤ length befores.now) × (n ≤ length afters.now)) }
-    requires afters_in_bounds { at + length (catalogue_text n 0 letters.now befores.now afters.now) ≤ length out.old }
+    requires enough_entries { (n ≤ length letters.now) × ((n ≤ length befores.now) × (n ≤ length afters.now)) }
+    requires room { at + length (catalogue_text n 0 letters.now befores.now afters.now) ≤ length out.old }
     ensures { (out.new ≡ put at (catalogue_text n 0 letters.now befores.now afters.now) out.old) × (result ≡ at + length (catalogue_text n 0 letters.now befores.now afters.now)) }
 {
     let mut i: usize = 0;
@@ -33,8 +33,8 @@ fn put_catalogue(
 
 // Prints the first n F lines.
 fn put_options(out: &mut [u8], at: usize, numbers: &[u8], weights: &[u16], n: usize) -> usize
-    requires n_in_bounds { (n ≤ length numbers.now) × (n ≤ length weights.now) }
-    requires weights_in_bounds { at + length (options_text n 0 numbers.now weights.now) ≤ length out.old }
+    requires enough_entries { (n ≤ length numbers.now) × (n ≤ length weights.now) }
+    requires room { at + length (options_text n 0 numbers.now weights.now) ≤ length out.old }
     ensures { (out.new ≡ put at (options_text n 0 numbers.now weights.now) out.old) × (result ≡ at + length (options_text n 0 numbers.now weights.now)) }
 {
     let mut i: usize = 0;
@@ -57,8 +57,8 @@ fn put_orderings(
     weights: &[u16],
     n: usize,
 ) -> usize
-    requires n_in_bounds { (n ≤ length firsts.now) × ((n ≤ length seconds.now) × (n ≤ length weights.now)) }
-    requires weights_in_bounds { at + length (orderings_text n 0 firsts.now seconds.now weights.now) ≤ length out.old }
+    requires enough_entries { (n ≤ length firsts.now) × ((n ≤ length seconds.now) × (n ≤ length weights.now)) }
+    requires room { at + length (orderings_text n 0 firsts.now seconds.now weights.now) ≤ length out.old }
     ensures { (out.new ≡ put at (orderings_text n 0 firsts.now seconds.now weights.now) out.old) × (result ≡ at + length (orderings_text n 0 firsts.now seconds.now weights.now)) }
 {
     let mut i: usize = 0;
@@ -76,7 +76,7 @@ fn put_orderings(
 // Prints the text of a record at the start of a buffer, and gives its size.
 pub fn put_text(s: Sheet, out: &mut [u8]) -> usize
     requires catalogue_lines_bound { (s.catalogue_lines ≤ 512) × ((s.option_count ≤ 32) × (s.ordering_count ≤ 64)) }
-    requires s_in_bounds { length (text_of s) ≤ length out.old }
+    requires room { length (text_of s) ≤ length out.old }
     ensures { (out.new ≡ put 0 (text_of s) out.old) × (result ≡ length (text_of s)) }
 {
     let letters = s.letters;

@@ -8,8 +8,8 @@ use sheet::Sheet;
 // How many bytes the first n catalogue lines have; their letters do not matter.
 fn catalogue_size(befores: &[u8], afters: &[u8], n: usize) -> usize
     requires n_bound { n ≤ 512 }
-    requires n_in_bounds { n ≤ length befores.now }
-    requires n_in_bounds_2 { n ≤ length afters.now }
+    requires enough_befores { n ≤ length befores.now }
+    requires enough_afters { n ≤ length afters.now }
     ensures { (result ≡ length (catalogue_text n 0 [] befores.now afters.now)) × (result ≤ 65 * n) }
 {
     let mut i: usize = 0;
@@ -26,8 +26,8 @@ fn catalogue_size(befores: &[u8], afters: &[u8], n: usize) -> usize
 // How many bytes the first n F lines have.
 fn options_size(numbers: &[u8], weights: &[u16], n: usize) -> usize
     requires n_bound { n ≤ 32 }
-    requires n_in_bounds { n ≤ length numbers.now }
-    requires n_in_bounds_2 { n ≤ length weights.now }
+    requires enough_numbers { n ≤ length numbers.now }
+    requires enough_weights { n ≤ length weights.now }
     ensures { (result ≡ length (options_text n 0 numbers.now weights.now)) × (result ≤ 65 * n) }
 {
     let mut i: usize = 0;
@@ -44,9 +44,9 @@ fn options_size(numbers: &[u8], weights: &[u16], n: usize) -> usize
 // How many bytes the first n U lines have.
 fn orderings_size(firsts: &[u8], seconds: &[u8], weights: &[u16], n: usize) -> usize
     requires n_bound { n ≤ 64 }
-    requires n_in_bounds { n ≤ length firsts.now }
-    requires n_in_bounds_2 { n ≤ length seconds.now }
-    requires n_in_bounds_3 { n ≤ length weights.now }
+    requires enough_firsts { n ≤ length firsts.now }
+    requires enough_seconds { n ≤ length seconds.now }
+    requires enough_weights { n ≤ length weights.now }
     ensures { (result ≡ length (orderings_text n 0 firsts.now seconds.now weights.now)) × (result ≤ 65 * n) }
 {
     let mut i: usize = 0;

@@ -1,8 +1,9 @@
 -- The first 8,193 bytes of an input decide its report, and what `report` leaves on a page of 1,024 bytes is all of it.
-use Rattle.std.specs.Prelude.{ℕ, ◌≡◌, refl, ◌≤◌, ◌<◌, false, List, ◌++◌, OnOk, IfSome, Result, Ok, Err, None, Some, cond, ltb, length, take, drop}
+use Rattle.std.specs.Prelude.{ℕ, ◌≡◌, refl, ◌≤◌, ◌<◌, false, List, ◌++◌, OnErr, OnOk, IfSome, Result, Ok, Err, None, Some, cond, ltb, length, take, drop}
 use Rattle.std.proofs.Common.{sym, ap, ◌∙◌, subst, arith, lt-ltb, le-ltb, length-take-le, take_all, le_refl, inl, inr}
 use Rattle.std.specs.declared.option.Option.{Option}
 use Rattle.std.specs.Io.KnownBytes.{Appends}
+use Rattle.output.specs.Gained.{GainsPart}
 use Rattle.sheet.specs.declared.answer.Refusal.TheVariants.{SheetTooLong}
 use Rattle.sheet.specs.declared.answer.Answer.TheVariants.{Accepted}
 use Rattle.lines.specs.Result.{refused_at}
@@ -55,3 +56,9 @@ pub writes_report : {E : Type 0} {U : Type 0} (r : Result U E) (known a b : Opti
 writes_report (Err e) known a b bs p q = tt
 writes_report (Ok u) None a b bs p q = tt
 writes_report (Ok u) (Some xs) a b bs p q = subst (Appends a b) q p
+
+pub writes_part : {E : Type 0} {U : Type 0} (r : Result U E) (known a b : Option (List ℕ)) (bs : List ℕ) → OnErr r (GainsPart a b bs) → IfSome known (λ xs. bs ≡ report_of xs)
+    → OnErr r (IfSome known (λ xs. GainsPart a b (report_of xs)))
+writes_part (Ok u) known a b bs p q = tt
+writes_part (Err e) None a b bs p q = tt
+writes_part (Err e) (Some xs) a b bs p q = subst (GainsPart a b) q p

@@ -42,9 +42,9 @@ fn declares(text: &str, name: &str) -> bool {
     })
 }
 
-/// `option-kept-in`/`-out` names `option-kept-out` too.
+/// `option_kept_in`/`_out` names `option_kept_out` too.
 fn whole_name(name: &str, last: &str) -> String {
-    match (name.strip_prefix('-'), last.rfind('-')) {
+    match (name.strip_prefix('_'), last.rfind('_')) {
         (Some(_), Some(at)) => format!("{}{name}", &last[..at]),
         _ => name.to_string(),
     }

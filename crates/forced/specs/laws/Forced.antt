@@ -42,7 +42,7 @@ module _ (v : Subscription) (b : DecidedBySlot) (n m : ℕ) (firsts seconds t : 
   module _ (kept dropped lost : ℕ) (start knows : List ℕ)
       (is_kept_with_ends : KeptWithEnds g.kept g.kept_orderings firsts seconds m kept)
       (is_start : WithOrderings t g.kept_orderings firsts seconds m start)
-      (is_Known : JoinedThroughAll start kept n n knows)
+      (is_known : JoinedThroughAll start kept n n knows)
       (is_dropping : Holds dropped n (λ i. has g.dropped i || has (get_or knows i 0) i))
       (is_lost : Holds lost m (λ u. has g.dropped_orderings u || (has dropped (get_or firsts u 0) || (has dropped (get_or seconds u 0) || has (get_or knows (get_or seconds u 0) 0) (get_or firsts u 0)))))
     where
@@ -71,7 +71,7 @@ module _ (v : Subscription) (b : DecidedBySlot) (n m : ℕ) (firsts seconds t : 
       known_table : Table knows n (known_before s b)
       unfolding known_before known_from_the_start
       known_table = record {
-        at = λ p q lp lq. is_Known.at p q lp lq ∙ ap (λ l. through (cell start) l p q) (slots_same n (has kept) (option_kept s b) (holds_at options_kept))
+        at = λ p q lp lq. is_known.at p q lp lq ∙ ap (λ l. through (cell start) l p q) (slots_same n (has kept) (option_kept s b) (holds_at options_kept))
             ∙ through_same n (cell start) (known_from_the_start s b) (slots n (option_kept s b)) (λ c w. (slots_out n (option_kept s b) c w).0) start_same p q lp lq;
       }
         where

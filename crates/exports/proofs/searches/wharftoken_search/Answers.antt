@@ -6,7 +6,6 @@ use Rattle.std.proofs.Common.{ap}
 use Rattle.std.specs.Prelude.{not}
 use Rattle.exports.proofs.searches.wharftoken_search.Goals as goal
 
--- paths? c.lent_both-answer
 pub pack_answer-requires : goal.pack_answer-requires
 pack_answer-requires c =
     out_packs _ _
@@ -15,7 +14,6 @@ pack_answer-requires c =
     (search_placed _ _ c.search-x.ensures)
     _ (omega arith)
 
--- paths? c.lent_both-answer
 pub returns-then-not-is_accepted : goal.returns-then-not-is_accepted
 returns-then-not-is_accepted c =
     search_untouched _ _ _ _
@@ -26,7 +24,6 @@ returns-then-not-is_accepted c =
     (ap not c.if-not-is_accepted.true)
     c.pack_answer.ensures
 
--- paths? c.lent_both-answer
 pub returns : goal.returns
 returns c =
     search_shown _ _ _ _

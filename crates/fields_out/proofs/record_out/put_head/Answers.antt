@@ -2,7 +2,6 @@
 use Rattle.fields_out.specs.laws.Put.{head_put}
 use Rattle.fields_out.proofs.record_out.put_head.Goals as goal
 
--- paths? c.before.before.before.before.before.before.before.before.before.before.before.before.before.before.before.before.before.before.before.before.before.before.before.before.before.before
 pub returns : goal.returns
 returns c =
     let start = c.before.before.before.before.before.before.before.before.before.before.before.before.before.before.before.before.before.before.before.before.before.before.before.before.before.before in

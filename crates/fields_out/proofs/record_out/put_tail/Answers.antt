@@ -2,7 +2,6 @@
 use Rattle.fields_out.specs.laws.Put.{tail_put}
 use Rattle.fields_out.proofs.record_out.put_tail.Goals as goal
 
--- paths? c.before.before.before.before.before.before.before.before.before.before.before.before.before.before.before
 pub returns : goal.returns
 returns c =
     let later = c.before.before.before.before.before.before.before.before.before.before.before.before.before.before.before in

@@ -8,7 +8,6 @@ use Rattle.shape.specs.LineText.{line_text}
 use Rattle.listing.specs.laws.Each.{printed_line}
 use Rattle.listing.proofs.lists.put_ordering.Goals as goal
 
--- paths? c.before.before.before.before.before.before.before
 pub returns : goal.returns
 returns c =
     let start = c.before.before.before.before.before.before.before in

@@ -18,7 +18,7 @@ returns-then-text-gt-MAX_BYTES c = simp (lt-ltb _ _ c.if-text-gt-MAX_BYTES.true)
 pub read_trailed-requires : goal.read_trailed-requires
 read_trailed-requires c = let e = c.last_line-last in
     let s = c.args.text.now in
-    record { at_in_bounds = (e.ensures.1, trailer_lines s e.result.start e.result.lines (ap (λ (x : LastLine). x.start) e.ensures.0) (ap (λ (x : LastLine). x.lines) e.ensures.0) (ap is_trailer (sym (to_end e.result.start s)) ∙ sym c.is_trailer.ensures ∙ c.if-is_trailer.true)); f_bound = (search rules, search rules) }
+    record { at_in_bounds = (e.ensures.1, trailer_lines s e.result.start e.result.lines (ap (λ (x : LastLine). x.start) e.ensures.0) (ap (λ (x : LastLine). x.lines) e.ensures.0) (ap is_trailer (sym (to_end e.result.start s)) ∙ sym c.is_trailer.ensures ∙ c.if-is_trailer.true)); numbers_bound = (search rules, search rules) }
 
 pub returns-then-is_trailer : goal.returns-then-is_trailer
 returns-then-is_trailer c = let e = c.last_line-last in

@@ -6,7 +6,6 @@ use Rattle.shape.specs.LineText.{line_text}
 use Rattle.listing.specs.laws.Appended.{appended_put, appended_same, room_same}
 use Rattle.report.proofs.page.put_refusal.Goals as goal
 
--- paths? c.before.before.before.before.before.before
 pub returns : goal.returns
 returns c =
     let start = c.before.before.before.before.before.before in

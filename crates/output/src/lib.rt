@@ -1,0 +1,6 @@
+// A whole text to an output.
+#![tactic(auto)]
+
+mod putting;
+
+pub use putting::put_all;

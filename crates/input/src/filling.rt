@@ -8,7 +8,7 @@ use std::io;
 use std::io::{ErrorKind, Read};
 
 // Fills the buffer from its start with the input's next bytes, and answers how many there are: fewer than the buffer has room for only
-// where the input ends. A read that a signal interrupts is tried again; after 2^64 tries it gives up.
+// where the input ends. A read that a signal interrupts is tried again; after 2^64 - 1 tries it gives up.
 pub fn fill<R: Read>(input: &mut R, buf: &mut [u8]) -> io::Result<usize>
     ensures within { IfOk result (λ n. n ≤ length buf.new) }
     ensures bytes { IfOk result (λ n. IfSome (R.remaining input.old) (λ xs. take n buf.new ≡ take (length buf.new) xs)) }

@@ -7,8 +7,8 @@ ghost use Rattle.output.specs.Gained.{GainsPart};
 use std::io;
 use std::io::{ErrorKind, Write};
 
-// Writes the text to its end. An output that fails has gained no more than a first part of it. A write that a signal interrupts is
-// tried again; after 2^64 tries it gives up.
+// Writes the text to its end. After an error the output has gained no more than a first part of it. A write that a signal interrupts
+// is tried again; after 2^64 - 1 tries it gives up.
 pub fn put_all<W: Write>(output: &mut W, text: &[u8]) -> io::Result<()>
     ensures whole { OnOk result (Appends (W.contents output.old) (W.contents output.new) text.now) }
     ensures part { OnErr result (GainsPart (W.contents output.old) (W.contents output.new) text.now) }

@@ -10,8 +10,8 @@ use std::io::{Read, Write};
 // One byte more than a sheet may have: what is longer is refused, however long it is.
 const ENOUGH: usize = 8193;
 
-// Reads a sheet to its end, or until it is too long, and writes its report. Where reading or writing fails, no more than a first part
-// of the report was written.
+// Reads a sheet to its end, or until it is too long, and writes its report. After an error, of reading or of writing, no more than a
+// first part of the report was written.
 pub fn answer<R: Read, W: Write>(input: &mut R, output: &mut W) -> io::Result<()>
     ensures whole { OnOk result (IfSome (R.remaining input.old)
         (λ sheet. Appends (W.contents output.old) (W.contents output.new) (report_of sheet))) }

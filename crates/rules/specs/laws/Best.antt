@@ -1,4 +1,5 @@
--- `best_of` is the best relaxation of every sheet, and the answer at tolerance 0 is unique.
+-- What the first best of all choices says, and that dropping everything is consistent.
+-- That `best_of` is the best, and the only one, is in `proofs/laws/Best.antt`: it rests on the tie order.
 use Rattle.std.specs.Prelude.{◌≡◌, Bool, true, false, not, cond, ◌⊎◌, ℕ, zero, suc, ◌≤◌, ◌<◌, length, get_or, take, drop, leb}
 use Rattle.std.proofs.Math.Path.{refl, sym, subst, ap}
 use Rattle.std.proofs.Common.{◌∙◌, inl, inr, ⊎_elim, leb→le}

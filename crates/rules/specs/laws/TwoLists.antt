@@ -16,13 +16,13 @@ getD_first zero f rest z i l = absurd (omega arith)
 getD_first (suc n) f rest z zero l = refl
 getD_first (suc n) f rest z (suc i) l = getD_first n (λ j. f (suc j)) rest z i (le_of_suc-le-suc l)
 
-pub get_or_past : {A : Type 0} (n : ℕ) (f : ℕ → A) (rest : List A) (z : A) (u : ℕ) → get_or (list_of n f ++ rest) (n + u) z ≡ get_or rest u z
+pub getD_past : {A : Type 0} (n : ℕ) (f : ℕ → A) (rest : List A) (z : A) (u : ℕ) → get_or (list_of n f ++ rest) (n + u) z ≡ get_or rest u z
 unfolding list_of
-get_or_past zero f rest z u = let q : 0 + u ≡ u = omega arith in ap (λ k. get_or rest k z) q
-get_or_past (suc n) f rest z u = let q : suc n + u ≡ suc (n + u) = omega arith in ap (λ k. get_or (f 0 ∷ (list_of n (λ j. f (suc j)) ++ rest)) k z) q ∙ get_or_past n (λ j. f (suc j)) rest z u
+getD_past zero f rest z u = let q : 0 + u ≡ u = omega arith in ap (λ k. get_or rest k z) q
+getD_past (suc n) f rest z u = let q : suc n + u ≡ suc (n + u) = omega arith in ap (λ k. get_or (f 0 ∷ (list_of n (λ j. f (suc j)) ++ rest)) k z) q ∙ getD_past n (λ j. f (suc j)) rest z u
 
 pub getD_second : {A : Type 0} (n m : ℕ) (f h : ℕ → A) (z : A) (u : ℕ) → u < m → get_or (list_of n f ++ list_of m h) (n + u) z ≡ h u
-getD_second n m f h z u l = get_or_past n f (list_of m h) z u ∙ getD_list_of m h z u l
+getD_second n m f h z u l = getD_past n f (list_of m h) z u ∙ getD_list_of m h z u l
 
 -- ---- a change at a slot
 pub set_first : {A : Type 0} (n : ℕ) (f : ℕ → A) (rest : List A) (w : A) (i : ℕ) → i < n → set (list_of n f ++ rest) i w ≡ list_of n (changed_at i w f) ++ rest

@@ -1,4 +1,4 @@
--- Charged conflicts: the invariant of the charges, and the upper limit that they give.
+-- Charged conflicts: the invariant of the charges. That each charge keeps it, and the upper limit that it gives, are in `proofs/laws`.
 use Rattle.std.specs.Prelude.{ℕ, ◌+◌, ◌≤◌}
 use mathlib.Core.List.{List, Memᴰ}
 use Rattle.std.proofs.Common.{arith}

@@ -1,4 +1,5 @@
--- Items (options and orderings), when one of them puts itself before another, and conflicts: closed chains of items that no consistent relaxation keeps whole.
+-- Items (options and orderings), when one of them puts itself before another, and conflicts: closed chains of items.
+-- That no consistent relaxation keeps a conflict whole is in `proofs/laws`.
 use Rattle.std.specs.Prelude.{Bool, false, ◌&&◌, ◌||◌, ℕ, eqb}
 use mathlib.Core.List.{List, [], ◌∷◌}
 use Rattle.std.proofs.Math.Dec.{T}

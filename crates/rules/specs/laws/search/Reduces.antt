@@ -1,5 +1,6 @@
 -- Reducing a half-decided list: more decisions, and nothing lost that the search still needs.
--- Forced decisions, forcing by limits and items that may as well be kept are all of this kind, and follow one another in any order.
+-- Forced decisions, forcing by limits and items that may as well be kept are all of this kind, and follow one another in any order;
+-- what rests on the tie order is in `proofs/laws`.
 use Rattle.std.specs.Prelude.{◌≡◌, refl, Bool, true, false, not, ◌⊎◌, List, ℕ, ◌+◌, ◌≤◌, ◌<◌, get_or, set, T, leb}
 use Rattle.std.proofs.Common.{inl, inr, arith, leb→le}
 use Rattle.std.proofs.Math.Dec.{nleb→lt}

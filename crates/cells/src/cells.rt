@@ -110,7 +110,7 @@ pub fn option_limit(
     n: usize,
     m: usize,
 ) -> Limit
-    requires ends_are_slots { EndsAreSlots n m first.now second.now × HasWeights n m weights.now ordering_weights.now }
+    requires arrays_fit { EndsAreSlots n m first.now second.now × HasWeights n m weights.now ordering_weights.now }
     requires open_fits { OpenFits h n m weights.now ordering_weights.now × (i < n) }
     ensures { result ≡ option_limit_in h n m first.now second.now weights.now ordering_weights.now i }
 {
@@ -145,7 +145,7 @@ pub fn ordering_limit(
     n: usize,
     m: usize,
 ) -> Limit
-    requires ends_are_slots { EndsAreSlots n m first.now second.now × HasWeights n m weights.now ordering_weights.now }
+    requires arrays_fit { EndsAreSlots n m first.now second.now × HasWeights n m weights.now ordering_weights.now }
     requires open_fits { OpenFits h n m weights.now ordering_weights.now × (u < m) }
     ensures { result ≡ ordering_limit_in h n m first.now second.now weights.now ordering_weights.now u }
 {

@@ -73,7 +73,7 @@ fn put_bytes_64(from: [u8; 64], out: &mut [u8], at: usize)
 
 // The counts and the weights.
 fn put_head(s: Sheet, out: &mut [u8])
-    requires catalogue_lines_bound { (s.catalogue_lines < 65536) × ((s.option_count < 65536) × (s.ordering_count < 65536)) }
+    requires counts_bound { (s.catalogue_lines < 65536) × ((s.option_count < 65536) × (s.ordering_count < 65536)) }
     requires in_bounds { 1894 ≤ length out.old }
     ensures { out.new ≡ put 0 (head_of s) out.old }
 {
@@ -106,7 +106,7 @@ fn put_tail(s: Sheet, out: &mut [u8])
 }
 
 pub fn put_record(s: Sheet, out: &mut [u8])
-    requires catalogue_lines_bound { (s.catalogue_lines < 65536) × ((s.option_count < 65536) × (s.ordering_count < 65536)) }
+    requires counts_bound { (s.catalogue_lines < 65536) × ((s.option_count < 65536) × (s.ordering_count < 65536)) }
     requires in_bounds { 1894 ≤ length out.old }
     ensures { out.new ≡ put 0 (bytes_of s) out.old }
 {

@@ -32,7 +32,7 @@ pub fn option_limits(
     n: usize,
     m: usize,
 ) -> [Limit; 32]
-    requires ends_are_slots { EndsAreSlots n m first.now second.now × HasWeights n m weights.now ordering_weights.now }
+    requires arrays_fit { EndsAreSlots n m first.now second.now × HasWeights n m weights.now ordering_weights.now }
     requires open_fits { OpenFits h n m weights.now ordering_weights.now }
     ensures { result ≡ filled 32 n (option_limit_in h n m first.now second.now weights.now ordering_weights.now) no_limit }
 {
@@ -56,7 +56,7 @@ pub fn ordering_limits(
     n: usize,
     m: usize,
 ) -> [Limit; 64]
-    requires ends_are_slots { EndsAreSlots n m first.now second.now × HasWeights n m weights.now ordering_weights.now }
+    requires arrays_fit { EndsAreSlots n m first.now second.now × HasWeights n m weights.now ordering_weights.now }
     requires open_fits { OpenFits h n m weights.now ordering_weights.now }
     ensures { result ≡ filled 64 m (ordering_limit_in h n m first.now second.now weights.now ordering_weights.now) no_limit }
 {

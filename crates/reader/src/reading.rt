@@ -30,7 +30,7 @@ fn bad_trailer(f: usize, u: usize, t: usize, n: usize) -> bool
 // The lines before the trailer, which is line t and begins at `at`.
 fn read_body(s: &[u8], at: usize, f: usize, u: usize, t: usize) -> Reading
     requires within_limits { WithinLimits f u (t - 1) }
-    requires sections_in_order { (1 ≤ f) × (u ≤ t) }
+    requires sections_fit { (1 ≤ f) × (u ≤ t) }
     requires at_in_bounds { (at ≤ length s.now) × (t ≡ suc (line_ends (take at s.now))) }
     ensures { result ≡ read_body f u s.now (sized (f - 1) (u - f) (t - u)) t (first_misshapen f u (take at s.now)) }
 {

@@ -20,7 +20,7 @@ pub fn take_all(
     e: u32,
     was: [u32; 64],
 )
-    requires ends_are_slots { EndsAreSlots n m first.now second.now × AllNamed chain.now len n m × (len ≤ length chain.now) × (len ≤ 64) × LeftIn n m options.old orderings.old }
+    requires chain_fits { EndsAreSlots n m first.now second.now × AllNamed chain.now len n m × (len ≤ length chain.now) × (len ≤ 64) × LeftIn n m options.old orderings.old }
     requires measured { Measured first.now second.now n m options.old orderings.old chain.now len e was × (e ≤ 4259775) }
     ensures { Gave first.now second.now n m chain.now e len options.old orderings.old options.new orderings.new }
 {

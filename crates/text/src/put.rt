@@ -75,7 +75,7 @@ fn put_orderings(
 
 // Prints the text of a record at the start of a buffer, and gives its size.
 pub fn put_text(s: Sheet, out: &mut [u8]) -> usize
-    requires catalogue_lines_bound { (s.catalogue_lines ≤ 512) × ((s.option_count ≤ 32) × (s.ordering_count ≤ 64)) }
+    requires counts_bound { (s.catalogue_lines ≤ 512) × ((s.option_count ≤ 32) × (s.ordering_count ≤ 64)) }
     requires room { length (text_of s) ≤ length out.old }
     ensures { (out.new ≡ put 0 (text_of s) out.old) × (result ≡ length (text_of s)) }
 {

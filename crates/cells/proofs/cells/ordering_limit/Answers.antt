@@ -16,4 +16,4 @@ pub overflow_sub-result-2 : goal.overflow_sub-result-2
 overflow_sub-result-2 c = own_weight_fits c.args.h _ _ c.args.first.now c.args.second.now _ _ c.requires.open_fits.0 _ c.requires.open_fits.1 (subst T (sym (sym c.get64.ensures ∙ c.if-not-get64.false)) tt)
 
 pub returns : goal.returns
-returns c = open_ordering_limit c.args.h _ _ _ _ _ _ c.requires.ends_are_slots.0 _ (sym c.get64.ensures ∙ c.if-not-get64.false) c.clash_row-before.ensures c.clash_row-after.ensures c.join-clash.ensures c.weight_with_orderings-charged.ensures.0 c.put-one.ensures c.put-two.ensures c.meet-ends.ensures c.weigh-needed.ensures.0
+returns c = open_ordering_limit c.args.h _ _ _ _ _ _ c.requires.arrays_fit.0 _ (sym c.get64.ensures ∙ c.if-not-get64.false) c.clash_row-before.ensures c.clash_row-after.ensures c.join-clash.ensures c.weight_with_orderings-charged.ensures.0 c.put-one.ensures c.put-two.ensures c.meet-ends.ensures c.weigh-needed.ensures.0

@@ -25,7 +25,7 @@ returns-then-not-is_accepted c =
 
 pub put_record-requires : goal.put_record-requires
 put_record-requires c = record {
-  catalogue_lines_bound = counts_small _
+  counts_bound = counts_small _
       c.read-x.ensures
       (out_before _ _ c.lent-answer.ensures.0 c.is_accepted.ensures (ap not c.if-not-is_accepted.false));
   in_bounds = c.lent-answer.ensures.1 (passed c.is_accepted.ensures (ap not c.if-not-is_accepted.false));

@@ -4,8 +4,7 @@ use Rattle.fields_out.proofs.record_out.put_head.Goals as goal
 
 pub returns : goal.returns
 returns c =
-    let start = c.before.before.before.before.before.before.before.before.before.before.before.before.before.before.before.before.before.before.before.before.before.before.before.before.before.before in
-    head_put start.args.s start.args.out.now
+    head_put c.args.s c.args.out.now
     c.put_two.ensures
     c.put_two-2.ensures
     c.put_two-3.ensures

@@ -4,9 +4,7 @@ use Rattle.fields_out.proofs.record_out.put_tail.Goals as goal
 
 pub returns : goal.returns
 returns c =
-    let later = c.before.before.before.before.before.before.before.before.before.before.before.before.before.before.before in
-    let start = later.before.before.before.before.before.before.before.before.before.before.before.before.before.before.before.before in
-    tail_put start.args.s start.args.out.now
+    tail_put c.args.s c.args.out.now
     c.put_bytes_512.ensures
     c.put_bytes_512-2.ensures
     c.put_bytes_512-3.ensures

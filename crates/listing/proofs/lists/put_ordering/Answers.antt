@@ -10,5 +10,4 @@ use Rattle.listing.proofs.lists.put_ordering.Goals as goal
 
 pub returns : goal.returns
 returns c =
-    let start = c.before.before.before.before.before.before.before in
-    printed_line (not (is_dropped (decided start.args.choice))) (line_text 82 (start.args.first ∷ start.args.second ∷ [])) (sym (ap not c.is_dropped.ensures) ∙ (ap not c.if-not-is_dropped.false)) start.requires c.put_two.ensures
+    printed_line (not (is_dropped (decided c.args.choice))) (line_text 82 (c.args.first ∷ c.args.second ∷ [])) (sym (ap not c.is_dropped.ensures) ∙ (ap not c.if-not-is_dropped.false)) c.requires c.put_two.ensures

@@ -8,5 +8,4 @@ use Rattle.listing.proofs.lists.put_place.Goals as goal
 
 pub returns : goal.returns
 returns c =
-    let start = c.before.before.before.before.before.before in
-    printed_line (eqb start.args.option 0) (line_text 83 (start.args.place ∷ start.args.option ∷ [])) (ne_eqb _ _ c.if-option-eq0.false) start.requires c.put_two.ensures
+    printed_line (eqb c.args.option 0) (line_text 83 (c.args.place ∷ c.args.option ∷ [])) (ne_eqb _ _ c.if-option-eq0.false) c.requires c.put_two.ensures

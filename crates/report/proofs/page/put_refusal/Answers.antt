@@ -8,6 +8,5 @@ use Rattle.report.proofs.page.put_refusal.Goals as goal
 
 pub returns : goal.returns
 returns c =
-    let start = c.before.before.before.before.before.before in
-    let same = ap (λ (k : ℕ). line_text 69 (k ∷ start.args.place.line ∷ start.args.place.column ∷ [])) c.number_of-number.ensures in
-    appended_same same (appended_put _ (room_same (sym same) start.requires) c.put_three.ensures)
+    let same = ap (λ (k : ℕ). line_text 69 (k ∷ c.args.place.line ∷ c.args.place.column ∷ [])) c.number_of-number.ensures in
+    appended_same same (appended_put _ (room_same (sym same) c.requires) c.put_three.ensures)

@@ -7,12 +7,12 @@ use Rattle.residual.proofs.taking_all.take_all.Goals.{then-w-h, else-w-h}
 
 pub held_by-h-requires : goal.held_by-h-requires
 held_by-h-requires c = let turn = c.loop-q in
-    let p = c.requires.ends_are_slots in let g = turn.invariant.1 in
+    let p = c.requires.chain_fits in let g = turn.invariant.1 in
     (p.0, p.1.each turn.q (omega arith), left_lower _ _ _ _ _ _ g.option_size g.ordering_size g.lower p.4)
 
 pub take-requires : goal.take-requires
 take-requires c = let turn = c.loop-q in
-    let p = c.requires.ends_are_slots in let g = turn.invariant.1 in
+    let p = c.requires.chain_fits in let g = turn.invariant.1 in
     let a = c.requires.measured.0.under turn.q (omega arith) in let h = c.held_by-h.ensures.0 in
     (p.0, p.1.each turn.q (omega arith), left_lower _ _ _ _ _ _ g.option_size g.ordering_size g.lower p.4, omega arith)
 

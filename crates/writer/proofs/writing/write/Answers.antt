@@ -14,7 +14,7 @@ pub returns-then-out-text_size : goal.returns-then-out-text_size
 returns-then-out-text_size c = wrote_too_short c.args.s _ _ (sym c.is_recorded.ensures ∙ c.if-not-is_recorded.false) (rw c.text_size.ensures at c.if-out-text_size.true) c.not_written-then-out-text_size.ensures
 
 pub put_text-size-requires : goal.put_text-size-requires
-put_text-size-requires c = record { catalogue_lines_bound = recorded_limits c.args.s (sym c.is_recorded.ensures ∙ c.if-not-is_recorded.false); room = rw c.text_size.ensures at c.if-out-text_size.false }
+put_text-size-requires c = record { counts_bound = recorded_limits c.args.s (sym c.is_recorded.ensures ∙ c.if-not-is_recorded.false); room = rw c.text_size.ensures at c.if-out-text_size.false }
 
 pub returns : goal.returns
 returns c = wrote_text c.args.s _ _ _ (sym c.is_recorded.ensures ∙ c.if-not-is_recorded.false) (rw c.text_size.ensures at c.if-out-text_size.false) c.put_text-size.ensures.1 c.put_text-size.ensures.0

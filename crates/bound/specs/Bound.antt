@@ -6,7 +6,7 @@ use Rattle.rules.specs.Limits.{option_open, ordering_open}
 use Rattle.rules.specs.laws.search.Charged as R
 use Rattle.rows.specs.Sets.{Holds}
 use Rattle.graph.specs.Shown.{counted}
-use Rattle.half.specs.Weights.{Weighs}
+use Rattle.chart.specs.Arrays.{Weighs}
 use Rattle.residual.specs.Taken.{residual_in, LeftIn}
 use Rattle.numbered.specs.Shown.{ShowsKnown}
 use Rattle.bound.specs.declared.charging.Charged.{Charged}

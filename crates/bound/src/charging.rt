@@ -1,7 +1,8 @@
 // Chains charged one after another.
 ghost use Rattle.std.specs.Prelude.{◌+◌, ◌≤◌, length};
 ghost use Rattle.graph.specs.Graph.{EndsAreSlots};
-ghost use Rattle.half.specs.Weights.{HasWeights, largest_sum};
+ghost use Rattle.chart.specs.Arrays.{HasWeights};
+ghost use Rattle.half.specs.Weights.{largest_sum};
 ghost use Rattle.residual.specs.Taken.{LeftIn};
 ghost use Rattle.hints.specs.Hints.{HintsAt};
 ghost use Rattle.bound.specs.Bound.{ChargesMore, KeepsCharged, BoundedAs};

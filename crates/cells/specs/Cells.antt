@@ -3,7 +3,7 @@ use Rattle.std.specs.Prelude.{Bool, ◌&&◌, ◌||◌, cond, List, ℕ, ◌+◌
 use Rattle.rules.specs.Slots.{over}
 use Rattle.rules.specs.Results as R
 use Rattle.rows.specs.Bits.{has}
-use Rattle.half.specs.Weights.{weight_in}
+use Rattle.chart.specs.Arrays.{weight_in}
 use Rattle.half.specs.Half.{clashes_in, weight_of_sets}
 use Rattle.cells.specs.declared.cells.Limit.{Limit}
 use Rattle.half.specs.declared.opened.Half.{Half}

@@ -3,7 +3,8 @@ ghost use Rattle.std.specs.Prelude.{◌≡◌, ◌&&◌, ◌||◌, ◌≤◌, �
 ghost use Rattle.rows.specs.Bits.{has};
 ghost use Rattle.rows.specs.Sets.{Holds};
 ghost use Rattle.graph.specs.Graph.{EndsAreSlots};
-ghost use Rattle.half.specs.Weights.{HasWeights, largest_sum};
+ghost use Rattle.chart.specs.Arrays.{HasWeights};
+ghost use Rattle.half.specs.Weights.{largest_sum};
 ghost use Rattle.half.specs.Half.{clashes_in, OpenFits};
 ghost use Rattle.cells.specs.Cells.{no_limit, weight_with_orderings_in, option_limit_in, ordering_limit_in};
 

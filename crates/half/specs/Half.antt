@@ -3,8 +3,10 @@ use Rattle.std.specs.Prelude.{◌≡◌, Bool, not, ◌&&◌, ◌||◌, List, �
 use Rattle.rules.specs.Slots.{sum, over}
 use Rattle.rows.specs.Bits.{has}
 use Rattle.rows.specs.Sets.{Holds}
-use Rattle.half.specs.Weights.{largest_sum, weight_in}
+use Rattle.chart.specs.Arrays.{weight_in}
+use Rattle.half.specs.Weights.{largest_sum}
 use Rattle.forced.specs.declared.forcing.Forced.{Forced}
+use Rattle.chart.specs.declared.chart.Chart.{Chart}
 use Rattle.half.specs.declared.opened.Half.{Half}
 
 -- i and j are different, and each is known before the other.
@@ -24,10 +26,11 @@ pub record OpenFits (h : Half) (n m : ℕ) (ws bs : List ℕ) : Type 0 where
   pub lower : h.lower ≤ largest_sum
   pub upper : h.upper ≤ largest_sum
 
-pub record HalfDecidedAs (f : Forced) (n m : ℕ) (ws bs : List ℕ) (h : Half) : Type 0 where
-  pub options : Holds h.open_options n (λ i. not (has f.kept i || has f.dropped i))
-  pub orderings : Holds h.open_orderings m (λ u. not (has f.kept_orderings u || has f.dropped_orderings u))
+-- The half-decided sheet of a chart that forced decisions leave.
+pub record HalfDecidedAs (chart : Chart) (f : Forced) (h : Half) : Type 0 where
+  pub options : Holds h.open_options chart.option_count (λ i. not (has f.kept i || has f.dropped i))
+  pub orderings : Holds h.open_orderings chart.ordering_count (λ u. not (has f.kept_orderings u || has f.dropped_orderings u))
   pub knows : h.known ≡ f.known
-  pub lower : h.lower ≡ weight_of_sets n m ws bs (has f.kept) (has f.kept_orderings)
-  pub upper : h.upper ≡ whole_weight n m ws bs - weight_of_sets n m ws bs (has f.dropped) (has f.dropped_orderings)
-  pub roomy : OpenFits h n m ws bs
+  pub lower : h.lower ≡ weight_of_sets chart.option_count chart.ordering_count chart.weights chart.ordering_weights (has f.kept) (has f.kept_orderings)
+  pub upper : h.upper ≡ whole_weight chart.option_count chart.ordering_count chart.weights chart.ordering_weights - weight_of_sets chart.option_count chart.ordering_count chart.weights chart.ordering_weights (has f.dropped) (has f.dropped_orderings)
+  pub roomy : OpenFits h chart.option_count chart.ordering_count chart.weights chart.ordering_weights

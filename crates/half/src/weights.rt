@@ -2,7 +2,8 @@
 ghost use Rattle.std.specs.Prelude.{◌≡◌, ◌+◌, ◌*◌, ◌≤◌, ◌<◌, get_or, length};
 ghost use Rattle.rules.specs.Slots.{sum, pick, over};
 ghost use Rattle.rows.specs.Bits.{has};
-ghost use Rattle.half.specs.Weights.{HasWeights, largest_sum};
+ghost use Rattle.chart.specs.Arrays.{HasWeights};
+ghost use Rattle.half.specs.Weights.{largest_sum};
 
 // A weight if asked, and else nothing.
 pub fn weight_if(yes: bool, w: u16) -> u32

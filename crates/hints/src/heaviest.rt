@@ -1,6 +1,6 @@
 // The open item whose consequences weigh most.
 ghost use Rattle.graph.specs.Graph.{EndsAreSlots};
-ghost use Rattle.half.specs.Weights.{HasWeights};
+ghost use Rattle.chart.specs.Arrays.{HasWeights};
 ghost use Rattle.picks.specs.Picked.{Picked};
 
 use crate::hints::with_orderings;

@@ -1,13 +1,14 @@
 // The whole answer about a half-decided sheet.
 ghost use Rattle.std.specs.Prelude.{◌≡◌};
 ghost use Rattle.graph.specs.Graph.{EndsAreSlots};
-ghost use Rattle.half.specs.Weights.{HasWeights};
+ghost use Rattle.chart.specs.Arrays.{HasWeights};
 ghost use Rattle.half.specs.Half.{OpenFits};
 ghost use Rattle.cells.specs.Cells.{no_limit, option_limit_in, ordering_limit_in};
 ghost use Rattle.given.specs.Filled.{filled};
 ghost use Rattle.limits.specs.Limited.{contradictory, LimitedBy};
 
 use cells::{Limit, no_limit, option_limit, ordering_limit};
+use chart::Chart;
 use given::Given;
 use half::Half;
 use sheet::{Choice, Decision, Decisions};
@@ -92,25 +93,21 @@ pub fn contradictory() -> Limited
 }
 
 // Forced decisions and limits, from what is given.
-pub fn limits_of<'a>(
-    g: Given,
-    t: [u32; 32],
-    first: &'a [u8],
-    second: &'a [u8],
-    weights: &'a [u16],
-    ordering_weights: &'a [u16],
-    n: usize,
-    m: usize,
-) -> Limited
-    requires { EndsAreSlots n m first.now second.now × HasWeights n m weights.now ordering_weights.now }
-    ensures { LimitedBy n m first.now second.now weights.now ordering_weights.now t g result }
+pub fn limits_of(chart: &Chart, g: Given) -> Limited
+    ensures { LimitedBy chart.now g result }
 {
-    let f = forced::force(g, t, first, second, n, m);
+    let n = chart.option_count;
+    let m = chart.ordering_count;
+    let first = &chart.firsts;
+    let second = &chart.seconds;
+    let weights = &chart.weights;
+    let ordering_weights = &chart.ordering_weights;
+    let f = forced::force(chart, g);
     let clash = f.contradiction;
     if clash {
         return contradictory();
     }
-    let h = half::half_decided(f, weights, ordering_weights, n, m);
+    let h = half::half_decided(chart, f);
     let o = given::options_decided(f.kept, f.dropped, n);
     let u = given::orderings_decided(f.kept_orderings, f.dropped_orderings, m);
     let e = Decisions {

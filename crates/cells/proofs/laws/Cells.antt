@@ -9,7 +9,7 @@ use Rattle.rows.specs.Sets.{Holds}
 use Rattle.rows.specs.laws.Bits.{has_joined, has_none, has_met, has_with_slot}
 use Rattle.rows.specs.laws.Sets.{holds_at}
 use Rattle.graph.specs.Graph.{EndsAreSlots}
-use Rattle.half.specs.Weights.{weight_in}
+use Rattle.chart.specs.Arrays.{weight_in}
 use Rattle.half.specs.Half.{clashes_in, weight_of_sets}
 use Rattle.cells.specs.Cells.{no_limit, open_option_in, open_ordering_in, weight_with_orderings_in, option_limit_in, ordering_limit_in}
 use Rattle.half.specs.laws.Weights.{over_same_tests}

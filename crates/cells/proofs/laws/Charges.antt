@@ -7,7 +7,7 @@ use Rattle.rules.specs.laws.Tests.{and_l}
 use Rattle.rules.specs.laws.Sums.{over_one}
 use Rattle.rows.specs.Bits.{has}
 use Rattle.graph.specs.Graph.{EndsAreSlots}
-use Rattle.half.specs.Weights.{weight_in}
+use Rattle.chart.specs.Arrays.{weight_in}
 use Rattle.half.specs.Half.{OpenFits}
 use Rattle.cells.specs.Cells.{open_option_in, open_ordering_in, weight_with_orderings_in}
 use Rattle.half.specs.laws.Weights.{over_same_tests, over_mono}

@@ -1,7 +1,5 @@
 // Chains charged one after another.
-ghost use Rattle.std.specs.Prelude.{◌+◌, ◌≤◌, length};
-ghost use Rattle.graph.specs.Graph.{EndsAreSlots};
-ghost use Rattle.chart.specs.Arrays.{HasWeights};
+ghost use Rattle.std.specs.Prelude.{◌+◌, ◌≤◌};
 ghost use Rattle.half.specs.Weights.{largest_sum};
 ghost use Rattle.residual.specs.Taken.{LeftIn};
 ghost use Rattle.hints.specs.Hints.{HintsAt};
@@ -9,14 +7,13 @@ ghost use Rattle.bound.specs.Bound.{ChargesMore, KeepsCharged, BoundedAs};
 
 use chains::find;
 use charge::charge;
+use chart::Chart;
 use hints::{Hints, hints_after, hints_of, next_holding, next_item};
 use residual::{start_options, start_orderings};
 
-// A round of charges: what is open of n options and m orderings, how many items a chain may have, and how much is enough.
+// A round of charges: what is open, how many items a chain may have, and how much is enough.
 #[derive(Clone, Copy)]
 pub struct Round {
-    pub n: usize,
-    pub m: usize,
     pub options: u32,
     pub orderings: u64,
     pub most: usize,
@@ -25,23 +22,22 @@ pub struct Round {
 
 // A chain through item x, if one is found: what is charged for it.
 fn charge_one(
-    known: &[u32],
-    after: &[u32],
-    first: &[u8],
-    second: &[u8],
+    chart: &Chart,
+    known: &[u32; 32],
+    after: &[u32; 32],
     r: Round,
     h: Hints,
     x: usize,
     options: &mut [u32],
     orderings: &mut [u32],
 ) -> u32
-    requires { EndsAreSlots r.n r.m first.now second.now × (32 ≤ length known.now) × (32 ≤ length after.now) × HintsAt h.charged h × (r.most ≤ 60) × LeftIn r.n r.m options.old orderings.old }
-    ensures { ChargesMore known.now first.now second.now r.n r.m result options.old orderings.old options.new orderings.new }
+    requires { HintsAt h.charged h × (r.most ≤ 60) × LeftIn chart.now.option_count chart.now.ordering_count options.old orderings.old }
+    ensures { ChargesMore chart.now known.now result options.old orderings.old options.new orderings.new }
 {
-    let n = r.n;
-    let m = r.m;
-    let soft = h.soft;
-    let held = h.held;
+    let n = chart.option_count;
+    let m = chart.ordering_count;
+    let first = &chart.firsts;
+    let second = &chart.seconds;
     let c = find(
         known,
         after,
@@ -49,8 +45,8 @@ fn charge_one(
         second,
         m,
         h.positive,
-        &soft,
-        &held,
+        &h.soft,
+        &h.held,
         &*orderings,
         x,
         r.most,
@@ -62,17 +58,16 @@ fn charge_one(
 // As long as there are chains through an item, then through the next. Each takes all that one of its members holds, so 96 items leave at most
 // 192 turns.
 fn charge_items(
-    known: &[u32],
-    after: &[u32],
-    first: &[u8],
-    second: &[u8],
+    chart: &Chart,
+    known: &[u32; 32],
+    after: &[u32; 32],
     r: Round,
     options: &mut [u32],
     orderings: &mut [u32],
     h: Hints,
 ) -> Hints
-    requires { EndsAreSlots r.n r.m first.now second.now × (32 ≤ length known.now) × (32 ≤ length after.now) × (r.most ≤ 60) × (r.enough ≤ largest_sum + 1) × LeftIn r.n r.m options.old orderings.old × (h.charged ≤ 10551136) × HintsAt h.charged h }
-    ensures { KeepsCharged known.now first.now second.now r.n r.m h.charged result.charged options.old orderings.old options.new orderings.new × HintsAt result.charged result }
+    requires { (r.most ≤ 60) × (r.enough ≤ largest_sum + 1) × LeftIn chart.now.option_count chart.now.ordering_count options.old orderings.old × (h.charged ≤ 10551136) × HintsAt h.charged h }
+    ensures { KeepsCharged chart.now known.now h.charged result.charged options.old orderings.old options.new orderings.new × HintsAt result.charged result }
 {
     let mut k = h;
     let mut x: usize = 0;
@@ -81,18 +76,18 @@ fn charge_items(
         if r.enough <= k.charged {
             return k;
         }
-        let y = next_holding(k.positive, &*orderings, r.m, x);
-        if 32 + r.m <= y {
+        let y = next_holding(k.positive, &*orderings, chart.ordering_count, x);
+        if 32 + chart.ordering_count <= y {
             return k;
         }
-        let e = charge_one(known, after, first, second, r, k, y, options, orderings);
+        let e = charge_one(chart, known, after, r, k, y, options, orderings);
         k = hints_after(
             k,
             e,
-            first,
-            second,
-            r.n,
-            r.m,
+            &chart.firsts,
+            &chart.seconds,
+            chart.option_count,
+            chart.ordering_count,
             r.options,
             r.orderings,
             &*options,
@@ -106,22 +101,21 @@ fn charge_items(
 
 // Pairs first, then threes, then chains of any length: short ones leave the most to the others. It stops as soon as enough is charged.
 fn charge_rounds(
-    known: &[u32],
-    after: &[u32],
-    first: &[u8],
-    second: &[u8],
+    chart: &Chart,
+    known: &[u32; 32],
+    after: &[u32; 32],
     r: Round,
     options: &mut [u32],
     orderings: &mut [u32],
 ) -> u32
-    requires { EndsAreSlots r.n r.m first.now second.now × (32 ≤ length known.now) × (32 ≤ length after.now) × (r.most ≤ 60) × (r.enough ≤ largest_sum + 1) × LeftIn r.n r.m options.old orderings.old }
-    ensures { KeepsCharged known.now first.now second.now r.n r.m 0 result options.old orderings.old options.new orderings.new }
+    requires { (r.most ≤ 60) × (r.enough ≤ largest_sum + 1) × LeftIn chart.now.option_count chart.now.ordering_count options.old orderings.old }
+    ensures { KeepsCharged chart.now known.now 0 result options.old orderings.old options.new orderings.new }
 {
     let h = hints_of(
-        first,
-        second,
-        r.n,
-        r.m,
+        &chart.firsts,
+        &chart.seconds,
+        chart.option_count,
+        chart.ordering_count,
         r.options,
         r.orderings,
         &*options,
@@ -129,11 +123,11 @@ fn charge_rounds(
         0,
     );
     let mut q = r;
-    let a = charge_items(known, after, first, second, q, options, orderings, h);
+    let a = charge_items(chart, known, after, q, options, orderings, h);
     q.most = 3;
-    let b = charge_items(known, after, first, second, q, options, orderings, a);
+    let b = charge_items(chart, known, after, q, options, orderings, a);
     q.most = 60;
-    let c = charge_items(known, after, first, second, q, options, orderings, b);
+    let c = charge_items(chart, known, after, q, options, orderings, b);
     c.charged
 }
 
@@ -147,34 +141,31 @@ pub struct Charged {
 
 // Nothing is charged where nothing need be.
 pub fn bound(
-    known: &[u32],
-    after: &[u32],
-    first: &[u8],
-    second: &[u8],
-    weights: &[u16],
-    ordering_weights: &[u16],
-    n: usize,
-    m: usize,
+    chart: &Chart,
+    known: &[u32; 32],
+    after: &[u32; 32],
     open_options: u32,
     open_orderings: u64,
     enough: u32,
 ) -> Charged
-    requires { EndsAreSlots n m first.now second.now × HasWeights n m weights.now ordering_weights.now × (32 ≤ length known.now) × (32 ≤ length after.now) × (enough ≤ largest_sum + 1) }
-    ensures { BoundedAs known.now first.now second.now n m weights.now ordering_weights.now open_options open_orderings result }
+    requires { enough ≤ largest_sum + 1 }
+    ensures { BoundedAs chart.now known.now open_options open_orderings result }
 {
-    let mut options = start_options(open_options, weights, n);
-    let mut orderings = start_orderings(open_orderings, ordering_weights, m);
+    let mut options = start_options(open_options, &chart.weights, chart.option_count);
+    let mut orderings = start_orderings(
+        open_orderings,
+        &chart.ordering_weights,
+        chart.ordering_count,
+    );
     let mut e: u32 = 0;
     if enough > 0 {
         let r = Round {
-            n: n,
-            m: m,
             options: open_options,
             orderings: open_orderings,
             most: 2,
             enough: enough,
         };
-        e = charge_rounds(known, after, first, second, r, &mut options, &mut orderings);
+        e = charge_rounds(chart, known, after, r, &mut options, &mut orderings);
     }
     Charged {
         charged: e,

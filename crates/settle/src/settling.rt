@@ -97,19 +97,7 @@ fn after_forcing(chart: &Chart, f: Forced, h: Half, want: u32) -> Step
     let g = sets_of(f);
     let after = transposed(&f.known, chart.option_count);
     let e = enough(h.upper, want);
-    let c = bound(
-        &f.known,
-        &after,
-        &chart.firsts,
-        &chart.seconds,
-        &chart.weights,
-        &chart.ordering_weights,
-        chart.option_count,
-        chart.ordering_count,
-        h.open_options,
-        h.open_orderings,
-        e,
-    );
+    let c = bound(chart, &f.known, &after, h.open_options, h.open_orderings, e);
     if h.upper < want + c.charged {
         return nothing_left(g);
     }

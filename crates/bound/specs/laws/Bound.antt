@@ -9,47 +9,48 @@ use Rattle.residual.specs.Started.{StartsAs}
 use Rattle.charge.specs.Charges.{ChargedAs}
 use Rattle.charge.specs.laws.Shown.{charge_charged}
 use Rattle.residual.specs.laws.Shown.{start_charged}
+use Rattle.chart.specs.declared.chart.Chart.{Chart}
 use Rattle.bound.specs.declared.charging.Charged.{Charged}
 use Rattle.bound.specs.Bound.{ChargesMore, KeepsCharged, BoundedAs}
 
-module _ {known firsts seconds : List ℕ} {n m : ℕ} where
-  pub charged_nothing : {before : ℕ} {options orderings : List ℕ} → before ≤ 10551136 → LeftIn n m options orderings → KeepsCharged known firsts seconds n m before before options orderings options orderings
+module _ {chart : Chart} {known : List ℕ} where
+  pub charged_nothing : {before : ℕ} {options orderings : List ℕ} → before ≤ 10551136 → LeftIn chart.option_count chart.ordering_count options orderings → KeepsCharged chart known before before options orderings options orderings
   charged_nothing l h = record { few = l; left_in = h; keeps = λ v d sh c. c }
 
   -- one charge
-  pub charged_one : {e : ℕ} {options orderings options' orderings' chain : List ℕ} {k : ℕ} → ChargedAs known firsts seconds n m chain k e options orderings options' orderings' → ChargesMore known firsts seconds n m e options orderings options' orderings'
+  pub charged_one : {e : ℕ} {options orderings options' orderings' chain : List ℕ} {k : ℕ} → ChargedAs known chart.firsts chart.seconds chart.option_count chart.ordering_count chain k e options orderings options' orderings' → ChargesMore chart known e options orderings options' orderings'
   charged_one {e} {options} {orderings} {options'} {orderings'} {chain} {k} done = record {
     few = done.few;
     left_in = done.left_in;
-    keeps = λ before v d sh c. charge_charged v d n m known firsts seconds sh chain k e before options orderings options' orderings' done c;
+    keeps = λ before v d sh c. charge_charged v d chart.option_count chart.ordering_count known chart.firsts chart.seconds sh chain k e before options orderings options' orderings' done c;
   }
 
   -- one charge more
-  pub charged_once_more : {start before after e : ℕ} {options orderings options' orderings' options'' orderings'' : List ℕ} → KeepsCharged known firsts seconds n m start before options orderings options' orderings'
-      → ChargesMore known firsts seconds n m e options' orderings' options'' orderings'' → before < largest_sum + 1 → after ≡ before + e → KeepsCharged known firsts seconds n m start after options orderings options'' orderings''
+  pub charged_once_more : {start before after e : ℕ} {options orderings options' orderings' options'' orderings'' : List ℕ} → KeepsCharged chart known start before options orderings options' orderings'
+      → ChargesMore chart known e options' orderings' options'' orderings'' → before < largest_sum + 1 → after ≡ before + e → KeepsCharged chart known start after options orderings options'' orderings''
   charged_once_more {start} {before} {after} {e} {options} {orderings} {options'} {orderings'} {options''} {orderings''} w more l q = record {
     few = (let f = more.few in omega arith);
     left_in = more.left_in;
-    keeps = λ v d sh c. subst (λ z. R.Charged (counted n m v) d z (residual_in options'' orderings'')) (sym q) (more.keeps before v d sh (w.keeps v d sh c));
+    keeps = λ v d sh c. subst (λ z. R.Charged (counted chart.option_count chart.ordering_count v) d z (residual_in options'' orderings'')) (sym q) (more.keeps before v d sh (w.keeps v d sh c));
   }
 
   -- one after another
-  pub charged_then : {start before after : ℕ} {options orderings options' orderings' options'' orderings'' : List ℕ} → KeepsCharged known firsts seconds n m start before options orderings options' orderings'
-      → KeepsCharged known firsts seconds n m before after options' orderings' options'' orderings'' → KeepsCharged known firsts seconds n m start after options orderings options'' orderings''
+  pub charged_then : {start before after : ℕ} {options orderings options' orderings' options'' orderings'' : List ℕ} → KeepsCharged chart known start before options orderings options' orderings'
+      → KeepsCharged chart known before after options' orderings' options'' orderings'' → KeepsCharged chart known start after options orderings options'' orderings''
   charged_then w z = record { few = z.few; left_in = z.left_in; keeps = λ v d sh c. z.keeps v d sh (w.keeps v d sh c) }
 
   -- what the charges began with is nothing
-  pub charged_from_nothing : {start after : ℕ} {options orderings options' orderings' : List ℕ} → start ≡ 0 → KeepsCharged known firsts seconds n m start after options orderings options' orderings'
-      → KeepsCharged known firsts seconds n m 0 after options orderings options' orderings'
-  charged_from_nothing {start} {after} {options} {orderings} {options'} {orderings'} e w = subst (λ z. KeepsCharged known firsts seconds n m z after options orderings options' orderings') e w
+  pub charged_from_nothing : {start after : ℕ} {options orderings options' orderings' : List ℕ} → start ≡ 0 → KeepsCharged chart known start after options orderings options' orderings'
+      → KeepsCharged chart known 0 after options orderings options' orderings'
+  charged_from_nothing {start} {after} {options} {orderings} {options'} {orderings'} e w = subst (λ z. KeepsCharged chart known z after options orderings options' orderings') e w
 
 -- What is charged from the start on is a bound.
-pub bounded : {known firsts seconds ws bs options orderings : List ℕ} {n m open_options open_orderings : ℕ} (c : Charged) → StartsAs open_options ws 32 n options → StartsAs open_orderings bs 64 m orderings
-    → KeepsCharged known firsts seconds n m 0 c.charged options orderings c.left_options c.left_orderings → length c.left_options ≡ 32 → length c.left_orderings ≡ 64 → BoundedAs known firsts seconds n m ws bs open_options open_orderings c
-bounded {known} {firsts} {seconds} {ws} {bs} {options} {orderings} {n} {m} {open_options} {open_orderings} c s u w p q = record {
+pub bounded : {chart : Chart} {known options orderings : List ℕ} {open_options open_orderings : ℕ} (c : Charged) → StartsAs open_options chart.weights 32 chart.option_count options → StartsAs open_orderings chart.ordering_weights 64 chart.ordering_count orderings
+    → KeepsCharged chart known 0 c.charged options orderings c.left_options c.left_orderings → length c.left_options ≡ 32 → length c.left_orderings ≡ 64 → BoundedAs chart known open_options open_orderings c
+bounded {chart} {known} {options} {orderings} {open_options} {open_orderings} c s u w p q = record {
   few = w.few;
   option_size = p;
   ordering_size = q;
   left_in = w.left_in;
-  charged = λ v d sh weighs ho hu. w.keeps v d sh (start_charged v d n m ws bs weighs open_options open_orderings ho hu options orderings s u);
+  charged = λ v d sh weighs ho hu. w.keeps v d sh (start_charged v d chart.option_count chart.ordering_count chart.weights chart.ordering_weights weighs open_options open_orderings ho hu options orderings s u);
 }

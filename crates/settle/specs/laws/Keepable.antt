@@ -61,7 +61,7 @@ turned {known} {after} {n} few w = record { at = λ p q l k. w.at q p (omega ari
 
 -- ---- what is charged
 module _ (chart : Chart) (want : ℕ) (g : Given) (apart : Apart chart g) (f : Forced) (by : ForcedBy chart g f)
-    (h : Half) (half : HalfDecidedAs chart f h) (fine : f.contradiction ≡ false) (c : Charged) (bounded : BoundedAs f.known chart.firsts chart.seconds chart.option_count chart.ordering_count chart.weights chart.ordering_weights h.open_options h.open_orderings c)
+    (h : Half) (half : HalfDecidedAs chart f h) (fine : f.contradiction ≡ false) (c : Charged) (bounded : BoundedAs chart f.known h.open_options h.open_orderings c)
     (s : Lines) (sh : ShowsSheet s chart) where
   abbrev d₀ : List Decision
   d₀ = decisions_of chart g
@@ -95,7 +95,7 @@ module _ (chart : Chart) (want : ℕ) (g : Given) (apart : Apart chart g) (f : F
 -- ---- what is kept besides
 module _ (chart : Chart) (want : ℕ) (g : Given) (apart : Apart chart g) (f : Forced) (by : ForcedBy chart g f)
     (h : Half) (half : HalfDecidedAs chart f h) (fine : f.contradiction ≡ false) (after : List ℕ) (turn : C.Transposed f.known chart.option_count chart.option_count after)
-    (c : Charged) (bounded : BoundedAs f.known chart.firsts chart.seconds chart.option_count chart.ordering_count chart.weights chart.ordering_weights h.open_options h.open_orderings c) (low : want + c.charged ≤ h.upper)
+    (c : Charged) (bounded : BoundedAs chart f.known h.open_options h.open_orderings c) (low : want + c.charged ≤ h.upper)
     (spare : ℕ) (es : spare ≡ h.upper - want - c.charged) (k : More)
     (kept : KeptMore chart f.known after h.open_options h.open_orderings c.left_options c.left_orderings spare (sets_of f) k) where
   abbrev d : List Decision

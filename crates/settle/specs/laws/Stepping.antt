@@ -50,7 +50,7 @@ step_forced chart want g apart f by h half e left sets x is = subst (StepAs char
 -- ---- after the forced decisions
 module _ (chart : Chart) (want : ℕ) (g : Given) (apart : Apart chart g) (f : Forced) (by : ForcedBy chart g f)
     (h : Half) (half : HalfDecidedAs chart f h) (e : f.contradiction ≡ false) (after : List ℕ) (turn : C.Transposed f.known chart.option_count chart.option_count after)
-    (c : Charged) (bounded : BoundedAs f.known chart.firsts chart.seconds chart.option_count chart.ordering_count chart.weights chart.ordering_weights h.open_options h.open_orderings c) where
+    (c : Charged) (bounded : BoundedAs chart f.known h.open_options h.open_orderings c) where
   abbrev d : List Decision
   d = decisions_of chart g
 
@@ -164,12 +164,12 @@ module _ (chart : Chart) (want : ℕ) (g : Given) (apart : Apart chart g) (f : F
 
 -- ---- the same by the names that the code has for the table and for the forced decisions
 module _ (chart : Chart) (known after : List ℕ) (want : ℕ) (f : Forced) (h : Half) (c : Charged) (table : known ≡ f.known) (turn : C.Transposed known chart.option_count chart.option_count after)
-    (bounded : BoundedAs known chart.firsts chart.seconds chart.option_count chart.ordering_count chart.weights chart.ordering_weights h.open_options h.open_orderings c) where
+    (bounded : BoundedAs chart known h.open_options h.open_orderings c) where
   turned_here : C.Transposed f.known chart.option_count chart.option_count after
   turned_here = subst (λ z. C.Transposed z chart.option_count chart.option_count after) table turn
 
-  bounded_here : BoundedAs f.known chart.firsts chart.seconds chart.option_count chart.ordering_count chart.weights chart.ordering_weights h.open_options h.open_orderings c
-  bounded_here = subst (λ z. BoundedAs z chart.firsts chart.seconds chart.option_count chart.ordering_count chart.weights chart.ordering_weights h.open_options h.open_orderings c) table bounded
+  bounded_here : BoundedAs chart f.known h.open_options h.open_orderings c
+  bounded_here = subst (λ z. BoundedAs chart z h.open_options h.open_orderings c) table bounded
 
   pub over_after_forcing : (x : Step) → x.settled.over ≡ true → x.more ≡ false → h.upper < want + c.charged → AfterForcing chart want f h x
   over_after_forcing x o q l = record { step = λ g apart by half e. step_charged chart want g apart f by h half e after turned_here c bounded_here x o q l }

@@ -9,4 +9,4 @@ pub returns-then-enough-gt0 : goal.returns-then-enough-gt0
 returns-then-enough-gt0 c = bounded _ c.start_options-options.ensures c.start_orderings-orderings.ensures c.charge_rounds-e.ensures (search rules) (search rules)
 
 pub returns-else-enough-gt0 : goal.returns-else-enough-gt0
-returns-else-enough-gt0 c = bounded _ c.start_options-options.ensures c.start_orderings-orderings.ensures (charged_nothing (omega arith) (starts_left c.requires.0.few_options c.requires.0.few_orderings c.start_options-options.ensures c.start_orderings-orderings.ensures)) (search rules) (search rules)
+returns-else-enough-gt0 c = bounded _ c.start_options-options.ensures c.start_orderings-orderings.ensures (charged_nothing (omega arith) (starts_left c.args.chart.now.ends.few_options c.args.chart.now.ends.few_orderings c.start_options-options.ensures c.start_orderings-orderings.ensures)) (search rules) (search rules)

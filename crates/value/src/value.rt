@@ -26,16 +26,7 @@ pub fn dive(chart: &Chart, g: Given) -> u32
     if x.over {
         return 0;
     }
-    let i = heaviest_item(
-        &chart.firsts,
-        &chart.seconds,
-        &chart.weights,
-        &chart.ordering_weights,
-        chart.option_count,
-        chart.ordering_count,
-        x.open_options,
-        x.open_orderings,
-    );
+    let i = heaviest_item(chart, x.open_options, x.open_orderings);
     if 96 <= i {
         return x.lower;
     }
@@ -53,16 +44,7 @@ pub fn best_value(chart: &Chart, back: &[u32; 32], g: Given, floor: u32) -> u32
     if x.over {
         return floor;
     }
-    let i = pick(
-        &chart.rows,
-        back,
-        &chart.firsts,
-        &chart.seconds,
-        x.open_options,
-        x.open_orderings,
-        chart.option_count,
-        chart.ordering_count,
-    );
+    let i = pick(chart, back, x.open_options, x.open_orderings);
     if 96 <= i {
         return greater(floor, x.lower);
     }

@@ -51,8 +51,8 @@ pub fn open_orderings(kept: u64, dropped: u64, m: usize) -> u64
 }
 
 // The half-decided sheet that forced decisions leave.
-pub fn half_decided(chart: &Chart, f: Forced) -> Half
-    ensures { HalfDecidedAs chart.now f result }
+pub fn half_decided(chart: &Chart, f: &Forced) -> Half
+    ensures { HalfDecidedAs chart.now f.now result }
 {
     let n = chart.option_count;
     let m = chart.ordering_count;

@@ -107,7 +107,7 @@ pub fn limits_of(chart: &Chart, g: Given) -> Limited
     if clash {
         return contradictory();
     }
-    let h = half::half_decided(chart, f);
+    let h = half::half_decided(chart, &f);
     let o = given::options_decided(f.kept, f.dropped, n);
     let u = given::orderings_decided(f.kept_orderings, f.dropped_orderings, m);
     let e = Decisions {

@@ -54,7 +54,7 @@ fn enough(upper: u32, want: u32) -> u32
 }
 
 // Whether nothing is open any more.
-fn is_decided(h: Half) -> bool {
+fn is_decided(h: &Half) -> bool {
     if h.open_options != 0 {
         return false;
     }
@@ -62,8 +62,8 @@ fn is_decided(h: Half) -> bool {
 }
 
 // The forced decisions, as sets.
-fn sets_of(f: Forced) -> Given
-    ensures { result ≡ sets_of f }
+fn sets_of(f: &Forced) -> Given
+    ensures { result ≡ sets_of f.now }
 {
     Given {
         kept: f.kept,
@@ -74,8 +74,8 @@ fn sets_of(f: Forced) -> Given
 }
 
 // The decisions that are left, with what the forced ones leave open and keep in weight; where they are more, there is another round.
-fn left_with(g: Given, h: Half, more: bool) -> Step
-    ensures { result ≡ left_with g h more }
+fn left_with(g: Given, h: &Half, more: bool) -> Step
+    ensures { result ≡ left_with g h.now more }
 {
     Step {
         settled: Settled {
@@ -90,9 +90,9 @@ fn left_with(g: Given, h: Half, more: bool) -> Step
 }
 
 // After forcing: an end where even the upper limit, less what is charged, is below what is wanted; otherwise items that may be kept besides.
-fn after_forcing(chart: &Chart, f: Forced, h: Half, want: u32) -> Step
-    requires { (want ≤ h.upper) × (h.upper ≤ largest_sum) }
-    ensures { AfterForcing chart.now want f h result }
+fn after_forcing(chart: &Chart, f: &Forced, h: &Half, want: u32) -> Step
+    requires { (want ≤ h.now.upper) × (h.now.upper ≤ largest_sum) }
+    ensures { AfterForcing chart.now want f.now h.now result }
 {
     let g = sets_of(f);
     let after = transposed(&f.known, chart.option_count);
@@ -126,15 +126,15 @@ fn one_round(chart: &Chart, g: Given, want: u32) -> Step
     if contradiction {
         return nothing_left(g);
     }
-    let h = half::half_decided(chart, f);
+    let h = half::half_decided(chart, &f);
     if h.upper < want {
         return nothing_left(g);
     }
-    if is_decided(h) {
-        let left = sets_of(f);
-        return left_with(left, h, false);
+    if is_decided(&h) {
+        let left = sets_of(&f);
+        return left_with(left, &h, false);
     }
-    after_forcing(chart, f, h, want)
+    after_forcing(chart, &f, &h, want)
 }
 
 // Round after round, until nothing more is kept.

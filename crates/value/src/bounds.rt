@@ -29,7 +29,7 @@ pub fn whole_limit(chart: &Chart) -> u32
 {
     let g = nothing_given();
     let f = forced::force(chart, g);
-    let h = half::half_decided(chart, f);
+    let h = half::half_decided(chart, &f);
     h.upper
 }
 

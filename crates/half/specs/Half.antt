@@ -14,15 +14,15 @@ unfoldable pub clashes_in : List ℕ → ℕ → ℕ → Bool
 clashes_in t i j = not (eqb i j) && (has (get_or t i 0) j && has (get_or t j 0) i)
 
 -- The weight of everything, and of a set of options with a set of orderings.
-abbrev pub whole_weight : (n m : ℕ) (ws bs : List ℕ) → ℕ
-whole_weight n m ws bs = sum n (weight_in ws) + sum m (weight_in bs)
+abbrev pub whole_weight : Chart → ℕ
+whole_weight chart = sum chart.option_count (weight_in chart.weights) + sum chart.ordering_count (weight_in chart.ordering_weights)
 
-abbrev pub weight_of_sets : (n m : ℕ) (ws bs : List ℕ) (p q : ℕ → Bool) → ℕ
-weight_of_sets n m ws bs p q = over n (weight_in ws) p + over m (weight_in bs) q
+abbrev pub weight_of_sets : Chart → (p q : ℕ → Bool) → ℕ
+weight_of_sets chart p q = over chart.option_count (weight_in chart.weights) p + over chart.ordering_count (weight_in chart.ordering_weights) q
 
 -- What is open weighs no more than what is not dropped; numbers stay small.
-pub record OpenFits (h : Half) (n m : ℕ) (ws bs : List ℕ) : Type 0 where
-  pub fits : weight_of_sets n m ws bs (has h.open_options) (has h.open_orderings) ≤ h.upper
+pub record OpenFits (chart : Chart) (h : Half) : Type 0 where
+  pub fits : weight_of_sets chart (has h.open_options) (has h.open_orderings) ≤ h.upper
   pub lower : h.lower ≤ largest_sum
   pub upper : h.upper ≤ largest_sum
 
@@ -31,6 +31,6 @@ pub record HalfDecidedAs (chart : Chart) (f : Forced) (h : Half) : Type 0 where
   pub options : Holds h.open_options chart.option_count (λ i. not (has f.kept i || has f.dropped i))
   pub orderings : Holds h.open_orderings chart.ordering_count (λ u. not (has f.kept_orderings u || has f.dropped_orderings u))
   pub knows : h.known ≡ f.known
-  pub lower : h.lower ≡ weight_of_sets chart.option_count chart.ordering_count chart.weights chart.ordering_weights (has f.kept) (has f.kept_orderings)
-  pub upper : h.upper ≡ whole_weight chart.option_count chart.ordering_count chart.weights chart.ordering_weights - weight_of_sets chart.option_count chart.ordering_count chart.weights chart.ordering_weights (has f.dropped) (has f.dropped_orderings)
-  pub roomy : OpenFits h chart.option_count chart.ordering_count chart.weights chart.ordering_weights
+  pub lower : h.lower ≡ weight_of_sets chart (has f.kept) (has f.kept_orderings)
+  pub upper : h.upper ≡ whole_weight chart - weight_of_sets chart (has f.dropped) (has f.dropped_orderings)
+  pub roomy : OpenFits chart h

@@ -56,22 +56,13 @@ pub fn half_decided(chart: &Chart, f: &Forced) -> Half
 {
     let n = chart.option_count;
     let m = chart.ordering_count;
-    let weights = &chart.weights;
-    let ordering_weights = &chart.ordering_weights;
     let known = f.known;
     let open = open_options(f.kept, f.dropped, n);
     let open_o = open_orderings(f.kept_orderings, f.dropped_orderings, m);
-    let low = weigh_both(f.kept, f.kept_orderings, weights, ordering_weights, n, m);
-    let x = weigh_all(weights, n);
-    let y = weigh_all(ordering_weights, m);
-    let gone = weigh_both(
-        f.dropped,
-        f.dropped_orderings,
-        weights,
-        ordering_weights,
-        n,
-        m,
-    );
+    let low = weigh_both(chart, f.kept, f.kept_orderings);
+    let x = weigh_all(&chart.weights, n);
+    let y = weigh_all(&chart.ordering_weights, m);
+    let gone = weigh_both(chart, f.dropped, f.dropped_orderings);
     let high = x + y - gone;
     Half {
         open_options: open,

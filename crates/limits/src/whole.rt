@@ -1,7 +1,5 @@
 // The whole answer about a half-decided sheet.
 ghost use Rattle.std.specs.Prelude.{◌≡◌};
-ghost use Rattle.graph.specs.Graph.{EndsAreSlots};
-ghost use Rattle.chart.specs.Arrays.{HasWeights};
 ghost use Rattle.half.specs.Half.{OpenFits};
 ghost use Rattle.cells.specs.Cells.{no_limit, option_limit_in, ordering_limit_in};
 ghost use Rattle.given.specs.Filled.{filled};
@@ -24,48 +22,30 @@ pub struct Limited {
     pub orderings: [Limit; 64],
 }
 
-pub fn option_limits(
-    h: Half,
-    first: &[u8],
-    second: &[u8],
-    weights: &[u16],
-    ordering_weights: &[u16],
-    n: usize,
-    m: usize,
-) -> [Limit; 32]
-    requires ends_are_slots { EndsAreSlots n m first.now second.now × HasWeights n m weights.now ordering_weights.now }
-    requires open_fits { OpenFits h n m weights.now ordering_weights.now }
-    ensures { result ≡ filled 32 n (option_limit_in h n m first.now second.now weights.now ordering_weights.now) no_limit }
+pub fn option_limits(chart: &Chart, h: &Half) -> [Limit; 32]
+    requires { OpenFits chart.now h.now }
+    ensures { result ≡ filled 32 chart.now.option_count (option_limit_in chart.now h.now) no_limit }
 {
     let z = no_limit();
     let mut l = [z; 32];
     let mut i: usize = 0;
-    while i < n {
-        let x = option_limit(h, i, first, second, weights, ordering_weights, n, m);
+    while i < chart.option_count {
+        let x = option_limit(chart, h, i);
         l[i] = x;
         i += 1;
     }
     l
 }
 
-pub fn ordering_limits(
-    h: Half,
-    first: &[u8],
-    second: &[u8],
-    weights: &[u16],
-    ordering_weights: &[u16],
-    n: usize,
-    m: usize,
-) -> [Limit; 64]
-    requires ends_are_slots { EndsAreSlots n m first.now second.now × HasWeights n m weights.now ordering_weights.now }
-    requires open_fits { OpenFits h n m weights.now ordering_weights.now }
-    ensures { result ≡ filled 64 m (ordering_limit_in h n m first.now second.now weights.now ordering_weights.now) no_limit }
+pub fn ordering_limits(chart: &Chart, h: &Half) -> [Limit; 64]
+    requires { OpenFits chart.now h.now }
+    ensures { result ≡ filled 64 chart.now.ordering_count (ordering_limit_in chart.now h.now) no_limit }
 {
     let z = no_limit();
     let mut l = [z; 64];
     let mut u: usize = 0;
-    while u < m {
-        let x = ordering_limit(h, u, first, second, weights, ordering_weights, n, m);
+    while u < chart.ordering_count {
+        let x = ordering_limit(chart, h, u);
         l[u] = x;
         u += 1;
     }
@@ -98,10 +78,6 @@ pub fn limits_of(chart: &Chart, g: Given) -> Limited
 {
     let n = chart.option_count;
     let m = chart.ordering_count;
-    let first = &chart.firsts;
-    let second = &chart.seconds;
-    let weights = &chart.weights;
-    let ordering_weights = &chart.ordering_weights;
     let f = forced::force(chart, g);
     let clash = f.contradiction;
     if clash {
@@ -114,8 +90,8 @@ pub fn limits_of(chart: &Chart, g: Given) -> Limited
         options: o,
         orderings: u,
     };
-    let x = option_limits(h, first, second, weights, ordering_weights, n, m);
-    let y = ordering_limits(h, first, second, weights, ordering_weights, n, m);
+    let x = option_limits(chart, &h);
+    let y = ordering_limits(chart, &h);
     let low = h.lower;
     let high = h.upper;
     Limited {

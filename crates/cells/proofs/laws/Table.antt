@@ -84,27 +84,27 @@ module _ (v : Subscription) (b : DecidedBySlot) (chart : Chart)
     unfolding clashes_in clash
     clash_is i j li lj = rw (half.knows, forces.known.at i j li lj, forces.known.at j i lj li) refl
 
-    charge_is : (p : ℕ → Bool) → weight_with_orderings_in h n m firsts seconds ws bs p ≡ weight_with_orderings s b p
+    charge_is : (p : ℕ → Bool) → weight_with_orderings_in chart h p ≡ weight_with_orderings s b p
     unfolding weight_with_orderings_in
     charge_is p = rw (
-      over_same n (weight_in ws) v.weight (open_option_in h n m firsts seconds ws bs p) (λ j. option_open s b j && p j) weight_is (λ j l. rw (option_open_is j l) refl),
-      over_same m (weight_in bs) v.ordering_weight (open_ordering_in h n m firsts seconds ws bs p)
+      over_same n (weight_in ws) v.weight (open_option_in chart h p) (λ j. option_open s b j && p j) weight_is (λ j l. rw (option_open_is j l) refl),
+      over_same m (weight_in bs) v.ordering_weight (open_ordering_in chart h p)
           (λ u. ordering_open s b u && ((option_open s b (v.first u) && p (v.first u)) || (option_open s b (v.second u) && p (v.second u)))) ordering_weight_is
           (λ u l. rw (ordering_open_is u l, option_open_is (get_or firsts u 0) (chart.ends.first u l), option_open_is (get_or seconds u 0) (chart.ends.second u l), shows.first u l, shows.second u l) refl),
     ) refl
 
-    A_is : (i : ℕ) → i < n → weight_with_orderings_in h n m firsts seconds ws bs (clashes_in h.known i) ≡ A s b i
+    A_is : (i : ℕ) → i < n → weight_with_orderings_in chart h (clashes_in h.known i) ≡ A s b i
     unfolding A
-    A_is i l = same_weight_with_orderings h n m firsts seconds ws bs chart.ends (clashes_in h.known i) (clash s b i) (λ j k. clash_is i j l k) ∙ charge_is (clash s b i)
+    A_is i l = same_weight_with_orderings chart h (clashes_in h.known i) (clash s b i) (λ j k. clash_is i j l k) ∙ charge_is (clash s b i)
 
-    E_is : (u : ℕ) → u < m → weight_with_orderings_in h n m firsts seconds ws bs (λ j. clashes_in h.known (get_or firsts u 0) j || clashes_in h.known (get_or seconds u 0) j) ≡ E s b u
+    E_is : (u : ℕ) → u < m → weight_with_orderings_in chart h (λ j. clashes_in h.known (get_or firsts u 0) j || clashes_in h.known (get_or seconds u 0) j) ≡ E s b u
     unfolding E
-    E_is u l = same_weight_with_orderings h n m firsts seconds ws bs chart.ends _ (λ j. clash s b (v.first u) j || clash s b (v.second u) j)
+    E_is u l = same_weight_with_orderings chart h _ (λ j. clash s b (v.first u) j || clash s b (v.second u) j)
         (λ j k. rw (clash_is (get_or firsts u 0) j (chart.ends.first u l) k, clash_is (get_or seconds u 0) j (chart.ends.second u l) k, shows.first u l, shows.second u l) refl)
         ∙ charge_is (λ j. clash s b (v.first u) j || clash s b (v.second u) j)
 
     -- The open options among {i} are i itself.
-    B_is : (i : ℕ) → T (option_open s b i) → weight_with_orderings_in h n m firsts seconds ws bs (eqb i) ≡ B s b i
+    B_is : (i : ℕ) → T (option_open s b i) → weight_with_orderings_in chart h (eqb i) ≡ B s b i
     unfolding B
     B_is i t = charge_is (eqb i) ∙ rw (
       over_same_tests n v.weight (λ j. option_open s b j && eqb i j) (eqb i) (λ j l. own j),
@@ -127,11 +127,11 @@ module _ (v : Subscription) (b : DecidedBySlot) (chart : Chart)
             go (yes e) = yes_and (option_open s b j) (eqb i j) (subst (λ z. T (option_open s b z)) e t)
             go (no k) = no_and (option_open s b j) (eqb i j) (ne_eqb i j k)
 
-    pub option_limit_is : (i : ℕ) → i < n → option_limit_in h n m firsts seconds ws bs i ≡ shown_limit (option_limit s b i)
+    pub option_limit_is : (i : ℕ) → i < n → option_limit_in chart h i ≡ shown_limit (option_limit s b i)
     unfolding option_limit_in option_limit option_kept_lower option_kept_upper option_dropped_lower option_dropped_upper
     option_limit_is i l = same_cell (has h.open_options i) (option_open s b i) _ _ (option_open_is i l) (λ t. rw (A_is i l, B_is i t, K_is, M_less_D_is, weight_is i l) refl)
 
-    pub ordering_limit_is : (u : ℕ) → u < m → ordering_limit_in h n m firsts seconds ws bs u ≡ shown_limit (ordering_limit s b u)
+    pub ordering_limit_is : (u : ℕ) → u < m → ordering_limit_in chart h u ≡ shown_limit (ordering_limit s b u)
     unfolding ordering_limit_in ordering_limit ordering_kept_lower ordering_kept_upper ordering_dropped_lower ordering_dropped_upper
     ordering_limit_is u l = same_cell (has h.open_orderings u) (ordering_open s b u) _ _ (ordering_open_is u l) (λ t. rw (
       E_is u l,

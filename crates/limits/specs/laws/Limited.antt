@@ -45,18 +45,6 @@ module _ (chart : Chart) (g : Given) (f : Forced) (by : ForcedBy chart g f) wher
   abbrev m : ℕ
   m = chart.ordering_count
 
-  abbrev firsts : List ℕ
-  firsts = chart.firsts
-
-  abbrev seconds : List ℕ
-  seconds = chart.seconds
-
-  abbrev ws : List ℕ
-  ws = chart.weights
-
-  abbrev bs : List ℕ
-  bs = chart.ordering_weights
-
   pub limited_contradiction : f.contradiction ≡ true → LimitedBy chart g contradictory
   unfolding limited_as
   limited_contradiction e v b shows weighs gives = rw (sym (by v b shows gives).contradicts ∙ e) refl
@@ -65,8 +53,8 @@ module _ (chart : Chart) (g : Given) (f : Forced) (by : ForcedBy chart g f) wher
       → {o u : List Choice} {x y : List Limit}
       → o ≡ filled 32 n (λ i. choice_of (decision_of (has f.kept i) (has f.dropped i))) undecided
       → u ≡ filled 64 m (λ j. choice_of (decision_of (has f.kept_orderings j) (has f.dropped_orderings j))) undecided
-      → x ≡ filled 32 n (option_limit_in h n m firsts seconds ws bs) no_limit
-      → y ≡ filled 64 m (ordering_limit_in h n m firsts seconds ws bs) no_limit
+      → x ≡ filled 32 n (option_limit_in chart h) no_limit
+      → y ≡ filled 64 m (ordering_limit_in chart h) no_limit
       → LimitedBy chart g (record { contradiction = false; decisions = record { options = o; orderings = u }; lower = h.lower; upper = h.upper; options = x; orderings = y })
   unfolding limited_as
   limited_otherwise h half e {o} {u} {x} {y} eo eu ex ey v b shows weighs gives = rw (sym forces.contradicts ∙ e) (parts

@@ -1,7 +1,7 @@
 // Chains charged one after another.
 ghost use Rattle.std.specs.Prelude.{◌+◌, ◌≤◌};
 ghost use Rattle.half.specs.Weights.{largest_sum};
-ghost use Rattle.residual.specs.Taken.{LeftIn};
+ghost use Rattle.residual.specs.Left.{LeftFor};
 ghost use Rattle.hints.specs.Hints.{HintsAt};
 ghost use Rattle.bound.specs.Bound.{ChargesMore, KeepsCharged, BoundedAs};
 
@@ -9,7 +9,7 @@ use chains::find;
 use charge::charge;
 use chart::Chart;
 use hints::{Hints, hints_after, hints_of, next_holding, next_item};
-use residual::{start_options, start_orderings};
+use residual::{Left, start};
 
 // A round of charges: what is open, how many items a chain may have, and how much is enough.
 #[derive(Clone, Copy)]
@@ -26,33 +26,38 @@ fn charge_one(
     known: &[u32; 32],
     after: &[u32; 32],
     r: Round,
-    h: Hints,
+    h: &Hints,
     x: usize,
-    options: &mut [u32],
-    orderings: &mut [u32],
+    left: &mut Left,
 ) -> u32
-    requires { HintsAt h.charged h × (r.most ≤ 60) × LeftIn chart.now.option_count chart.now.ordering_count options.old orderings.old }
-    ensures { ChargesMore chart.now known.now result options.old orderings.old options.new orderings.new }
+    requires { HintsAt h.now.charged h.now × (r.most ≤ 60) × LeftFor chart.now left.old }
+    ensures { ChargesMore chart.now known.now result left.old left.new }
 {
-    let n = chart.option_count;
-    let m = chart.ordering_count;
-    let first = &chart.firsts;
-    let second = &chart.seconds;
     let c = find(
         known,
         after,
-        first,
-        second,
-        m,
+        &chart.firsts,
+        &chart.seconds,
+        chart.ordering_count,
         h.positive,
         &h.soft,
         &h.held,
-        &*orderings,
+        &left.orderings,
         x,
         r.most,
     );
     let k = c.len;
-    charge(known, first, second, n, m, &c.items, k, options, orderings)
+    charge(
+        known,
+        &chart.firsts,
+        &chart.seconds,
+        chart.option_count,
+        chart.ordering_count,
+        &c.items,
+        k,
+        &mut left.options,
+        &mut left.orderings,
+    )
 }
 
 // As long as there are chains through an item, then through the next. Each takes all that one of its members holds, so 96 items leave at most
@@ -62,12 +67,11 @@ fn charge_items(
     known: &[u32; 32],
     after: &[u32; 32],
     r: Round,
-    options: &mut [u32],
-    orderings: &mut [u32],
+    left: &mut Left,
     h: Hints,
 ) -> Hints
-    requires { (r.most ≤ 60) × (r.enough ≤ largest_sum + 1) × LeftIn chart.now.option_count chart.now.ordering_count options.old orderings.old × (h.charged ≤ 10551136) × HintsAt h.charged h }
-    ensures { KeepsCharged chart.now known.now h.charged result.charged options.old orderings.old options.new orderings.new × HintsAt result.charged result }
+    requires { (r.most ≤ 60) × (r.enough ≤ largest_sum + 1) × LeftFor chart.now left.old × (h.charged ≤ 10551136) × HintsAt h.charged h }
+    ensures { KeepsCharged chart.now known.now h.charged result.charged left.old left.new × HintsAt result.charged result }
 {
     let mut k = h;
     let mut x: usize = 0;
@@ -76,23 +80,12 @@ fn charge_items(
         if r.enough <= k.charged {
             return k;
         }
-        let y = next_holding(k.positive, &*orderings, chart.ordering_count, x);
+        let y = next_holding(k.positive, &left.orderings, chart.ordering_count, x);
         if 32 + chart.ordering_count <= y {
             return k;
         }
-        let e = charge_one(chart, known, after, r, k, y, options, orderings);
-        k = hints_after(
-            k,
-            e,
-            &chart.firsts,
-            &chart.seconds,
-            chart.option_count,
-            chart.ordering_count,
-            r.options,
-            r.orderings,
-            &*options,
-            &*orderings,
-        );
+        let e = charge_one(chart, known, after, r, &k, y, left);
+        k = hints_after(chart, k, e, r.options, r.orderings, &*left);
         x = next_item(y, e);
         turns -= 1;
     }
@@ -105,29 +98,18 @@ fn charge_rounds(
     known: &[u32; 32],
     after: &[u32; 32],
     r: Round,
-    options: &mut [u32],
-    orderings: &mut [u32],
+    left: &mut Left,
 ) -> u32
-    requires { (r.most ≤ 60) × (r.enough ≤ largest_sum + 1) × LeftIn chart.now.option_count chart.now.ordering_count options.old orderings.old }
-    ensures { KeepsCharged chart.now known.now 0 result options.old orderings.old options.new orderings.new }
+    requires { (r.most ≤ 60) × (r.enough ≤ largest_sum + 1) × LeftFor chart.now left.old }
+    ensures { KeepsCharged chart.now known.now 0 result left.old left.new }
 {
-    let h = hints_of(
-        &chart.firsts,
-        &chart.seconds,
-        chart.option_count,
-        chart.ordering_count,
-        r.options,
-        r.orderings,
-        &*options,
-        &*orderings,
-        0,
-    );
+    let h = hints_of(chart, r.options, r.orderings, &*left, 0);
     let mut q = r;
-    let a = charge_items(chart, known, after, q, options, orderings, h);
+    let a = charge_items(chart, known, after, q, left, h);
     q.most = 3;
-    let b = charge_items(chart, known, after, q, options, orderings, a);
+    let b = charge_items(chart, known, after, q, left, a);
     q.most = 60;
-    let c = charge_items(chart, known, after, q, options, orderings, b);
+    let c = charge_items(chart, known, after, q, left, b);
     c.charged
 }
 
@@ -135,8 +117,7 @@ fn charge_rounds(
 #[derive(Clone, Copy)]
 pub struct Charged {
     pub charged: u32,
-    pub left_options: [u32; 32],
-    pub left_orderings: [u32; 64],
+    pub left: Left,
 }
 
 // Nothing is charged where nothing need be.
@@ -151,12 +132,7 @@ pub fn bound(
     requires { enough ≤ largest_sum + 1 }
     ensures { BoundedAs chart.now known.now open_options open_orderings result }
 {
-    let mut options = start_options(open_options, &chart.weights, chart.option_count);
-    let mut orderings = start_orderings(
-        open_orderings,
-        &chart.ordering_weights,
-        chart.ordering_count,
-    );
+    let mut left = start(chart, open_options, open_orderings);
     let mut e: u32 = 0;
     if enough > 0 {
         let r = Round {
@@ -165,11 +141,10 @@ pub fn bound(
             most: 2,
             enough: enough,
         };
-        e = charge_rounds(chart, known, after, r, &mut options, &mut orderings);
+        e = charge_rounds(chart, known, after, r, &mut left);
     }
     Charged {
         charged: e,
-        left_options: options,
-        left_orderings: orderings,
+        left: left,
     }
 }

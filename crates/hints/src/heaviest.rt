@@ -4,7 +4,6 @@ ghost use Rattle.picks.specs.Picked.{Picked};
 use crate::hints::with_orderings;
 use chart::Chart;
 use picks::heaviest;
-use residual::{start_options, start_orderings};
 
 // Its number; 96 where nothing is open.
 pub fn heaviest_item(chart: &Chart, open_options: u32, open_orderings: u64) -> usize
@@ -12,8 +11,13 @@ pub fn heaviest_item(chart: &Chart, open_options: u32, open_orderings: u64) -> u
 {
     let n = chart.option_count;
     let m = chart.ordering_count;
-    let options = start_options(open_options, &chart.weights, n);
-    let orderings = start_orderings(open_orderings, &chart.ordering_weights, m);
-    let held = with_orderings(options, &chart.firsts, &chart.seconds, &orderings, m);
-    heaviest(&held, &orderings, open_options, open_orderings, n, m)
+    let left = residual::start(chart, open_options, open_orderings);
+    let held = with_orderings(
+        left.options,
+        &chart.firsts,
+        &chart.seconds,
+        &left.orderings,
+        m,
+    );
+    heaviest(&held, &left.orderings, open_options, open_orderings, n, m)
 }

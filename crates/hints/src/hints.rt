@@ -1,8 +1,9 @@
 // What the finder goes by: hints, of which nothing is promised.
 ghost use Rattle.std.specs.Prelude.{◌+◌, ◌≤◌, length};
-ghost use Rattle.graph.specs.Graph.{EndsAreSlots};
 ghost use Rattle.hints.specs.Hints.{HintsAt};
 
+use chart::Chart;
+use residual::Left;
 use std::num::wrapping_add_u32;
 
 // What is charged so far, the open options whose consequences still hold something, how much they hold, and between which options an open
@@ -40,35 +41,32 @@ pub fn with_orderings(
     held
 }
 
-fn first_32(options: &[u32], n: usize) -> [u32; 32]
-    requires { (n ≤ 32) × (n ≤ length options.now) }
-{
-    let mut own: [u32; 32] = [0; 32];
-    let mut i: usize = 0;
-    while i < n {
-        own[i] = options[i];
-        i += 1;
-    }
-    own
-}
-
 pub fn hints_of(
-    first: &[u8],
-    second: &[u8],
-    n: usize,
-    m: usize,
+    chart: &Chart,
     open_options: u32,
     open_orderings: u64,
-    options: &[u32],
-    orderings: &[u32],
+    left: &Left,
     charged: u32,
 ) -> Hints
-    requires { EndsAreSlots n m first.now second.now × (n ≤ length options.now) × (m ≤ length orderings.now) }
     ensures { HintsAt charged result }
 {
-    let own = first_32(options, n);
-    let held = with_orderings(own, first, second, orderings, m);
-    let soft = chains::soft_of(first, second, orderings, open_orderings, n, m);
+    let n = chart.option_count;
+    let m = chart.ordering_count;
+    let held = with_orderings(
+        left.options,
+        &chart.firsts,
+        &chart.seconds,
+        &left.orderings,
+        m,
+    );
+    let soft = chains::soft_of(
+        &chart.firsts,
+        &chart.seconds,
+        &left.orderings,
+        open_orderings,
+        n,
+        m,
+    );
     let positive = chains::positive_of(&held, open_options, n);
     Hints {
         charged: charged,
@@ -80,34 +78,20 @@ pub fn hints_of(
 
 // The same after a charge of e; nothing moves if nothing was charged.
 pub fn hints_after(
+    chart: &Chart,
     k: Hints,
     e: u32,
-    first: &[u8],
-    second: &[u8],
-    n: usize,
-    m: usize,
     open_options: u32,
     open_orderings: u64,
-    options: &[u32],
-    orderings: &[u32],
+    left: &Left,
 ) -> Hints
-    requires { EndsAreSlots n m first.now second.now × (n ≤ length options.now) × (m ≤ length orderings.now) × (k.charged + e ≤ 10551136) × HintsAt k.charged k }
+    requires { (k.charged + e ≤ 10551136) × HintsAt k.charged k }
     ensures { HintsAt (k.charged + e) result }
 {
     if e == 0 {
         return k;
     }
-    hints_of(
-        first,
-        second,
-        n,
-        m,
-        open_options,
-        open_orderings,
-        options,
-        orderings,
-        k.charged + e,
-    )
+    hints_of(chart, open_options, open_orderings, left, k.charged + e)
 }
 
 // An item that gave nothing more is left for the next one.

@@ -6,6 +6,6 @@ mod starting;
 mod taking;
 mod taking_all;
 
-pub use starting::{start_options, start_orderings};
+pub use starting::{Left, start};
 pub use taking::held_by;
 pub use taking_all::take_all;

@@ -95,24 +95,14 @@ fn after_forcing(chart: &Chart, f: &Forced, h: &Half, want: u32) -> Step
     ensures { AfterForcing chart.now want f.now h.now result }
 {
     let g = sets_of(f);
-    let after = transposed(&f.known, chart.option_count);
+    let after = transposed(&h.known, chart.option_count);
     let e = enough(h.upper, want);
-    let c = bound(chart, &f.known, &after, h.open_options, h.open_orderings, e);
+    let c = bound(chart, &h.known, &after, h.open_options, h.open_orderings, e);
     if h.upper < want + c.charged {
         return nothing_left(g);
     }
     let spare = h.upper - want - c.charged;
-    let k = keep_more(
-        chart,
-        g,
-        &f.known,
-        &after,
-        h.open_options,
-        h.open_orderings,
-        &c.left_options,
-        &c.left_orderings,
-        spare,
-    );
+    let k = keep_more(chart, g, h, &after, &c.left, spare);
     left_with(k.given, h, k.more)
 }
 

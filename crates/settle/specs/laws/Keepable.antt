@@ -26,7 +26,7 @@ use Rattle.graph.specs.Shown.{counted}
 use Rattle.forced.specs.Forced.{ForcedAs, ForcedBy}
 use Rattle.half.specs.Half.{HalfDecidedAs}
 use Rattle.numbered.specs.Items.{numbered, Named}
-use Rattle.residual.specs.Taken.{residual_in}
+use Rattle.residual.specs.Left.{residual_of}
 use Rattle.numbered.specs.laws.Items.{numbered_option, numbered_ordering}
 use Rattle.numbered.specs.Shown.{ShowsKnown}
 use Rattle.numbered.specs.laws.Items.{shows_known}
@@ -61,7 +61,7 @@ turned {known} {after} {n} few w = record { at = λ p q l k. w.at q p (omega ari
 
 -- ---- what is charged
 module _ (chart : Chart) (want : ℕ) (g : Given) (apart : Apart chart g) (f : Forced) (by : ForcedBy chart g f)
-    (h : Half) (half : HalfDecidedAs chart f h) (fine : f.contradiction ≡ false) (c : Charged) (bounded : BoundedAs chart f.known h.open_options h.open_orderings c)
+    (h : Half) (half : HalfDecidedAs chart f h) (fine : f.contradiction ≡ false) (c : Charged) (bounded : BoundedAs chart h.known h.open_options h.open_orderings c)
     (s : Lines) (sh : ShowsSheet s chart) where
   abbrev d₀ : List Decision
   d₀ = decisions_of chart g
@@ -78,26 +78,26 @@ module _ (chart : Chart) (want : ℕ) (g : Given) (apart : Apart chart g) (f : F
   pub no_contradiction_here : T (not (contradiction (subscription s) b₀))
   no_contradiction_here = subst (λ z. T (not z)) (sym (sym (forced_as chart s sh g apart f by).contradicts ∙ fine)) tt
 
-  shows : ShowsKnown (subscription s) b₀ chart.option_count chart.ordering_count f.known chart.firsts chart.seconds
-  shows = shows_known chart.ends sh.shows fa.known
+  shows : ShowsKnown (subscription s) b₀ chart.option_count chart.ordering_count h.known chart.firsts chart.seconds
+  shows = subst (λ z. ShowsKnown (subscription s) b₀ chart.option_count chart.ordering_count z chart.firsts chart.seconds) (sym half.knows) (shows_known chart.ends sh.shows fa.known)
 
   -- it is charged on this sheet
-  pub charged_here : R.Charged (subscription s) b₀ c.charged (residual_in c.left_options c.left_orderings)
-  charged_here = subst (λ z. R.Charged z b₀ c.charged (residual_in c.left_options c.left_orderings)) same
+  pub charged_here : R.Charged (subscription s) b₀ c.charged (residual_of c.left)
+  charged_here = subst (λ z. R.Charged z b₀ c.charged (residual_of c.left)) same
       (bounded.charged (subscription s) b₀ shows sh.weighs (open_options_hold (subscription s) b₀ chart f h fa half) (open_orderings_hold (subscription s) b₀ chart f h fa half))
 
   -- so no relaxation that agrees is worth more than what is left of the limit
   pub charged_limit : (r : List Bool) → ConsistentRelaxation s r → Agrees d₀ r → value_of s r + c.charged ≤ h.upper
   charged_limit r ok ag = let a = size chart want g apart f by s sh in
-      let p = charged_limit_holds s sh.proper 0 d₀ a c.charged (residual_in c.left_options c.left_orderings) charged_here r ok ag in
+      let p = charged_limit_holds s sh.proper 0 d₀ a c.charged (residual_of c.left) charged_here r ok ag in
       let q = upper_is chart want g apart f by s sh h half in omega arith
 
 -- ---- what is kept besides
 module _ (chart : Chart) (want : ℕ) (g : Given) (apart : Apart chart g) (f : Forced) (by : ForcedBy chart g f)
-    (h : Half) (half : HalfDecidedAs chart f h) (fine : f.contradiction ≡ false) (after : List ℕ) (turn : C.Transposed f.known chart.option_count chart.option_count after)
-    (c : Charged) (bounded : BoundedAs chart f.known h.open_options h.open_orderings c) (low : want + c.charged ≤ h.upper)
+    (h : Half) (half : HalfDecidedAs chart f h) (fine : f.contradiction ≡ false) (after : List ℕ) (turn : C.Transposed h.known chart.option_count chart.option_count after)
+    (c : Charged) (bounded : BoundedAs chart h.known h.open_options h.open_orderings c) (low : want + c.charged ≤ h.upper)
     (spare : ℕ) (es : spare ≡ h.upper - want - c.charged) (k : More)
-    (kept : KeptMore chart f.known after h.open_options h.open_orderings c.left_options c.left_orderings spare (sets_of f) k) where
+    (kept : KeptMore chart h after c.left spare (sets_of f) k) where
   abbrev d : List Decision
   d = decisions_of chart g
 
@@ -105,7 +105,7 @@ module _ (chart : Chart) (want : ℕ) (g : Given) (apart : Apart chart g) (f : F
   e = decisions_of chart k.given
 
   abbrev r : Residual
-  r = residual_in c.left_options c.left_orderings
+  r = residual_of c.left
 
   module _ (s : Lines) (sh : ShowsSheet s chart) where
     abbrev v : Subscription
@@ -121,14 +121,14 @@ module _ (chart : Chart) (want : ℕ) (g : Given) (apart : Apart chart g) (f : F
     opens = record { options = open_options_hold v b chart f h (fa chart want g apart f by h half fine c bounded s sh) half; orderings = open_orderings_hold v b chart f h (fa chart want g apart f by h half fine c bounded s sh) half; begin = kept.begin; end = kept.end }
 
     -- what may be kept by the arrays may be kept on the sheet
-    keepable : (x : ℕ) → Named chart.option_count chart.ordering_count x → T (L.item_open w b (numbered x)) → MayKeep chart f.known after h.open_options kept.begins kept.ends c.left_options c.left_orderings spare x
+    keepable : (x : ℕ) → Named chart.option_count chart.ordering_count x → T (L.item_open w b (numbered x)) → MayKeep chart h.known after h.open_options kept.begins kept.ends c.left spare x
         → Keepable s sh.proper 0 d (size chart want g apart f by s sh) want (numbered x)
     keepable x named o (needed l) = K.needed c.charged r (charged_here chart want g apart f by h half fine c bounded s sh)
-        (let p = held_same v b chart.option_count chart.ordering_count f.known chart.firsts chart.seconds (shows chart want g apart f by h half fine c bounded s sh) r (numbered x) ∙ ap (λ z. held z r (numbered x)) (same chart want g apart f by h half fine c bounded s sh) in
+        (let p = held_same v b chart.option_count chart.ordering_count h.known chart.firsts chart.seconds (shows chart want g apart f by h half fine c bounded s sh) r (numbered x) ∙ ap (λ z. held z r (numbered x)) (same chart want g apart f by h half fine c bounded s sh) in
         let q = upper_is chart want g apart f by s sh h half in
         let fits = charged_fits s sh.proper 0 d (size chart want g apart f by s sh) (no_contradiction_here chart want g apart f by h half fine c bounded s sh) c.charged r (charged_here chart want g apart f by h half fine c bounded s sh) in omega arith)
     keepable x named o (loose y) = K.loose_item (subst (λ z. T (L.loose z b (numbered x))) (same chart want g apart f by h half fine c bounded s sh)
-        (loose_told v b chart.option_count chart.ordering_count f.known chart.firsts chart.seconds (shows chart want g apart f by h half fine c bounded s sh) h.open_options h.open_orderings kept.begins kept.ends opens x named after (turned chart.ends.few_options turn) o y))
+        (loose_told v b chart.option_count chart.ordering_count h.known chart.firsts chart.seconds (shows chart want g apart f by h half fine c bounded s sh) h.open_options h.open_orderings kept.begins kept.ends opens x named after (turned chart.ends.few_options turn) o y))
 
     -- ---- place by place
     -- the forced decisions, by the sets
@@ -179,7 +179,7 @@ module _ (chart : Chart) (want : ℕ) (g : Given) (apart : Apart chart g) (f : F
           named : Named chart.option_count chart.ordering_count p
           named = record { option = λ _. l; ordering = λ k. (let q = chart.ends.few_options in absurd (omega arith)) }
 
-          go : T (has f.kept p) ⊎ ((p < chart.option_count) × T (has h.open_options p) × MayKeep chart f.known after h.open_options kept.begins kept.ends c.left_options c.left_orderings spare p)
+          go : T (has f.kept p) ⊎ ((p < chart.option_count) × T (has h.open_options p) × MayKeep chart h.known after h.open_options kept.begins kept.ends c.left spare p)
               → T (has f.kept p) ⊎ (T (is_open (decision_of (has f.kept p) (has f.dropped p))) × Keepable s sh.proper 0 d (size chart want g apart f by s sh) want (numbered p))
           go (inl t) = inl t
           go (inr (_, t, y)) = inr (option_is_open p l t, keepable p named (subst (λ z. T (L.item_open w b z)) (sym (numbered_option p (let q = chart.ends.few_options in omega arith))) (subst T (holds_at opens.options p l) t)) y)
@@ -196,7 +196,7 @@ module _ (chart : Chart) (want : ℕ) (g : Given) (apart : Apart chart g) (f : F
           named : Named chart.option_count chart.ordering_count (32 + u)
           named = record { option = λ k. absurd (omega arith); ordering = λ _. (let y : 32 + u - 32 ≡ u = omega arith in omega arith) }
 
-          go : T (has f.kept_orderings u) ⊎ ((u < chart.ordering_count) × T (has h.open_orderings u) × MayKeep chart f.known after h.open_options kept.begins kept.ends c.left_options c.left_orderings spare (32 + u))
+          go : T (has f.kept_orderings u) ⊎ ((u < chart.ordering_count) × T (has h.open_orderings u) × MayKeep chart h.known after h.open_options kept.begins kept.ends c.left spare (32 + u))
               → T (has f.kept_orderings u) ⊎ (T (is_open (decision_of (has f.kept_orderings u) (has f.dropped_orderings u))) × Keepable s sh.proper 0 d (size chart want g apart f by s sh) want (numbered (32 + u)))
           go (inl t) = inl t
           go (inr (_, t, y)) = inr (ordering_is_open u l t, keepable (32 + u) named (subst (λ z. T (L.item_open w b z)) (ap ordering (let y : u ≡ 32 + u - 32 = omega arith in y) ∙ sym (numbered_ordering (32 + u) (omega arith))) (subst T (holds_at opens.orderings u l) t)) y)

@@ -49,8 +49,8 @@ step_forced chart want g apart f by h half e left sets x is = subst (StepAs char
 
 -- ---- after the forced decisions
 module _ (chart : Chart) (want : ℕ) (g : Given) (apart : Apart chart g) (f : Forced) (by : ForcedBy chart g f)
-    (h : Half) (half : HalfDecidedAs chart f h) (e : f.contradiction ≡ false) (after : List ℕ) (turn : C.Transposed f.known chart.option_count chart.option_count after)
-    (c : Charged) (bounded : BoundedAs chart f.known h.open_options h.open_orderings c) where
+    (h : Half) (half : HalfDecidedAs chart f h) (e : f.contradiction ≡ false) (after : List ℕ) (turn : C.Transposed h.known chart.option_count chart.option_count after)
+    (c : Charged) (bounded : BoundedAs chart h.known h.open_options h.open_orderings c) where
   abbrev d : List Decision
   d = decisions_of chart g
 
@@ -60,7 +60,7 @@ module _ (chart : Chart) (want : ℕ) (g : Given) (apart : Apart chart g) (f : F
       (λ s sh r ok ag. let p = charged_limit chart want g apart f by h half e c bounded s sh r ok ag in omega arith))
 
   -- ---- items are kept besides
-  module _ (spare : ℕ) (k : More) (kept : KeptMore chart f.known after h.open_options h.open_orderings c.left_options c.left_orderings spare (sets_of f) k)
+  module _ (spare : ℕ) (k : More) (kept : KeptMore chart h after c.left spare (sets_of f) k)
       (low : want + c.charged ≤ h.upper) (es : spare ≡ h.upper - want - c.charged) where
     abbrev Kept_here : (s : Lines) → ShowsSheet s chart → Type 0
     Kept_here s sh = Reduces (value_of s) (ConsistentRelaxation s) 0 want d (decisions_of chart k.given)
@@ -162,27 +162,18 @@ module _ (chart : Chart) (want : ℕ) (g : Given) (apart : Apart chart g) (f : F
       reduces = λ _ s sh. kept_reduces s sh;
     }
 
--- ---- the same by the names that the code has for the table and for the forced decisions
-module _ (chart : Chart) (known after : List ℕ) (want : ℕ) (f : Forced) (h : Half) (c : Charged) (table : known ≡ f.known) (turn : C.Transposed known chart.option_count chart.option_count after)
-    (bounded : BoundedAs chart known h.open_options h.open_orderings c) where
-  turned_here : C.Transposed f.known chart.option_count chart.option_count after
-  turned_here = subst (λ z. C.Transposed z chart.option_count chart.option_count after) table turn
-
-  bounded_here : BoundedAs chart f.known h.open_options h.open_orderings c
-  bounded_here = subst (λ z. BoundedAs chart z h.open_options h.open_orderings c) table bounded
-
+-- ---- whatever decisions these are forced by
+module _ (chart : Chart) (after : List ℕ) (want : ℕ) (f : Forced) (h : Half) (c : Charged) (turn : C.Transposed h.known chart.option_count chart.option_count after)
+    (bounded : BoundedAs chart h.known h.open_options h.open_orderings c) where
   pub over_after_forcing : (x : Step) → x.settled.over ≡ true → x.more ≡ false → h.upper < want + c.charged → AfterForcing chart want f h x
-  over_after_forcing x o q l = record { step = λ g apart by half e. step_charged chart want g apart f by h half e after turned_here c bounded_here x o q l }
+  over_after_forcing x o q l = record { step = λ g apart by half e. step_charged chart want g apart f by h half e after turn c bounded x o q l }
 
-  pub kept_after_forcing : (spare : ℕ) (g : Given) → g ≡ sets_of f → (k : More) → KeptMore chart known after h.open_options h.open_orderings c.left_options c.left_orderings spare g k
+  pub kept_after_forcing : (spare : ℕ) (g : Given) → g ≡ sets_of f → (k : More) → KeptMore chart h after c.left spare g k
       → want + c.charged ≤ h.upper → spare ≡ h.upper - want - c.charged → (x : Step) → x ≡ left_with k.given h k.more → AfterForcing chart want f h x
   kept_after_forcing spare g sets k kept low es x is = record {
-    step = λ g apart by half e. subst (StepAs chart want g) (sym is) (step_kept chart want g apart f by h half e after turned_here c bounded_here spare k kept_here low es);
+    step = λ g apart by half e. subst (StepAs chart want g) (sym is)
+        (step_kept chart want g apart f by h half e after turn c bounded spare k (subst (λ z. KeptMore chart h after c.left spare z k) sets kept) low es);
   }
-    where
-      kept_here : KeptMore chart f.known after h.open_options h.open_orderings c.left_options c.left_orderings spare (sets_of f) k
-      kept_here = subst (λ z. KeptMore chart f.known after h.open_options h.open_orderings c.left_options c.left_orderings spare z k) sets
-          (subst (λ z. KeptMore chart z after h.open_options h.open_orderings c.left_options c.left_orderings spare g k) table kept)
 
 -- ---- round after round
 pub settles_then : (chart : Chart) (want : ℕ) (g : Given) (x : Step) → StepAs chart want g x → x.more ≡ true

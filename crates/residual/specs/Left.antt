@@ -1,0 +1,13 @@
+-- What is left of the items' weights, for the items of a chart.
+use Rattle.rules.specs.laws.search.Residual.{Residual}
+use Rattle.residual.specs.Taken.{residual_in, LeftIn}
+use Rattle.chart.specs.declared.chart.Chart.{Chart}
+use Rattle.residual.specs.declared.starting.Left.{Left}
+
+-- The residuals that it holds.
+abbrev pub residual_of : Left → Residual
+residual_of left = residual_in left.options left.orderings
+
+-- None is above the greatest weight.
+abbrev pub LeftFor : Chart → Left → Type 0
+LeftFor chart left = LeftIn chart.option_count chart.ordering_count left.options left.orderings

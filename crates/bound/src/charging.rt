@@ -47,17 +47,7 @@ fn charge_one(
         r.most,
     );
     let k = c.len;
-    charge(
-        known,
-        &chart.firsts,
-        &chart.seconds,
-        chart.option_count,
-        chart.ordering_count,
-        &c.items,
-        k,
-        &mut left.options,
-        &mut left.orderings,
-    )
+    charge(chart, known, &c.items, k, left)
 }
 
 // As long as there are chains through an item, then through the next. Each takes all that one of its members holds, so 96 items leave at most

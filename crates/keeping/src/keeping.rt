@@ -54,30 +54,11 @@ fn may_keep(
     requires { LeftFor chart.now left.now × Named chart.now.option_count chart.now.ordering_count x }
     ensures { OnlyIf result (MayKeep chart.now known.now after.now o.options o.begins o.ends left.now o.spare x) }
 {
-    let held = held_by(
-        &chart.firsts,
-        &chart.seconds,
-        chart.option_count,
-        chart.ordering_count,
-        &left.options,
-        &left.orderings,
-        x,
-    );
+    let held = held_by(chart, left, x);
     if o.spare < held {
         return true;
     }
-    is_loose(
-        known,
-        after,
-        &chart.firsts,
-        &chart.seconds,
-        chart.option_count,
-        chart.ordering_count,
-        o.options,
-        o.begins,
-        o.ends,
-        x,
-    )
+    is_loose(chart, known, after, o.options, o.begins, o.ends, x)
 }
 
 // Whether option i is open and may be kept.

@@ -5,10 +5,10 @@ ghost use Rattle.residual.specs.Left.{LeftFor};
 ghost use Rattle.hints.specs.Hints.{HintsAt};
 ghost use Rattle.bound.specs.Bound.{ChargesMore, KeepsCharged, BoundedAs};
 
-use chains::find;
+use chains::{Hints, find};
 use charge::charge;
 use chart::Chart;
-use hints::{Hints, hints_after, hints_of, next_holding, next_item};
+use hints::{hints_after, hints_of, next_holding, next_item};
 use residual::{Left, start};
 
 // A round of charges: what is open, how many items a chain may have, and how much is enough.
@@ -33,19 +33,7 @@ fn charge_one(
     requires { HintsAt h.now.charged h.now × (r.most ≤ 60) × LeftFor chart.now left.old }
     ensures { ChargesMore chart.now known.now result left.old left.new }
 {
-    let c = find(
-        known,
-        after,
-        &chart.firsts,
-        &chart.seconds,
-        chart.ordering_count,
-        h.positive,
-        &h.soft,
-        &h.held,
-        &left.orderings,
-        x,
-        r.most,
-    );
+    let c = find(chart, known, after, h, &left.orderings, x, r.most);
     let k = c.len;
     charge(chart, known, &c.items, k, left)
 }

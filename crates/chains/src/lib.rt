@@ -9,6 +9,6 @@ mod level;
 mod member;
 mod walk;
 
-pub use chain::{Chain, find};
+pub use chain::{Chain, Hints, find};
 pub use held::{positive_of, soft_of};
 pub use member::{end_at, lowest, without_lowest};

@@ -1,6 +1,6 @@
 -- What the finder of chains goes by.
 use Rattle.std.specs.Prelude.{◌≡◌, ℕ, length}
-use Rattle.hints.specs.declared.hints.Hints.{Hints}
+use Rattle.chains.specs.declared.chain.Hints.{Hints}
 
 -- Hints after so much was charged: two full arrays, and nothing else is promised.
 pub record HintsAt (charged : ℕ) (h : Hints) : Type 0 where

@@ -2,19 +2,10 @@
 ghost use Rattle.std.specs.Prelude.{◌+◌, ◌≤◌, length};
 ghost use Rattle.hints.specs.Hints.{HintsAt};
 
+use chains::Hints;
 use chart::Chart;
 use residual::Left;
 use std::num::wrapping_add_u32;
-
-// What is charged so far, the open options whose consequences still hold something, how much they hold, and between which options an open
-// ordering still holds something.
-#[derive(Clone, Copy)]
-pub struct Hints {
-    pub charged: u32,
-    pub positive: u32,
-    pub held: [u32; 32],
-    pub soft: [u32; 32],
-}
 
 // What an ordering holds counts at both its ends.
 pub fn with_orderings(

@@ -6,4 +6,4 @@ mod heaviest;
 mod hints;
 
 pub use heaviest::heaviest_item;
-pub use hints::{Hints, hints_after, hints_of, next_holding, next_item};
+pub use hints::{hints_after, hints_of, next_holding, next_item};

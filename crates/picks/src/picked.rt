@@ -12,25 +12,14 @@ pub fn pick(chart: &Chart, back: &[u32; 32], open_options: u32, open_orderings: 
 {
     let n = chart.option_count;
     let m = chart.ordering_count;
-    let first = &chart.firsts;
-    let second = &chart.seconds;
-    let from = counted(first, open_orderings, m);
-    let to = counted(second, open_orderings, m);
+    let from = counted(&chart.firsts, open_orderings, m);
+    let to = counted(&chart.seconds, open_orderings, m);
     let s = option_scores(&chart.rows, back, open_options, &from, &to);
     let i = greatest(&s, open_options as u64, n);
     if i < n {
         return i;
     }
-    let t = ordering_scores(
-        &chart.rows,
-        back,
-        first,
-        second,
-        open_orderings,
-        m,
-        &from,
-        &to,
-    );
+    let t = ordering_scores(chart, back, open_orderings, &from, &to);
     let u = greatest(&t, open_orderings, m);
     if u < m {
         return 32 + u;

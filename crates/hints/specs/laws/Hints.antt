@@ -1,7 +1,7 @@
 -- Hints keep what they say of themselves.
 use Rattle.std.specs.Prelude.{ℕ, refl}
 use Rattle.hints.specs.Hints.{HintsAt}
-use Rattle.hints.specs.declared.hints.Hints.{Hints}
+use Rattle.chains.specs.declared.chain.Hints.{Hints}
 
 -- Hints know what was charged themselves.
 pub hints_here : {charged : ℕ} {h : Hints} → HintsAt charged h → HintsAt h.charged h

@@ -2,7 +2,6 @@
 ghost use Rattle.std.specs.Prelude.{◌+◌, ◌≤◌};
 ghost use Rattle.half.specs.Weights.{largest_sum};
 ghost use Rattle.residual.specs.Left.{LeftFor};
-ghost use Rattle.hints.specs.Hints.{HintsAt};
 ghost use Rattle.bound.specs.Bound.{ChargesMore, KeepsCharged, BoundedAs};
 
 use chains::{Hints, find};
@@ -30,7 +29,7 @@ fn charge_one(
     x: usize,
     left: &mut Left,
 ) -> u32
-    requires { HintsAt h.now.charged h.now × (r.most ≤ 60) × LeftFor chart.now left.old }
+    requires { (r.most ≤ 60) × LeftFor chart.now left.old }
     ensures { ChargesMore chart.now known.now result left.old left.new }
 {
     let c = find(chart, known, after, h, &left.orderings, x, r.most);
@@ -46,28 +45,26 @@ fn charge_items(
     after: &[u32; 32],
     r: Round,
     left: &mut Left,
-    h: Hints,
-) -> Hints
-    requires { (r.most ≤ 60) × (r.enough ≤ largest_sum + 1) × LeftFor chart.now left.old × (h.charged ≤ 10551136) × HintsAt h.charged h }
-    ensures { KeepsCharged chart.now known.now h.charged result.charged left.old left.new × HintsAt result.charged result }
+    h: &mut Hints,
+)
+    requires { (r.most ≤ 60) × (r.enough ≤ largest_sum + 1) × LeftFor chart.now left.old × (h.old.charged ≤ 10551136) }
+    ensures { KeepsCharged chart.now known.now h.old.charged h.new.charged left.old left.new }
 {
-    let mut k = h;
     let mut x: usize = 0;
     let mut turns: usize = 192;
     while turns > 0 {
-        if r.enough <= k.charged {
-            return k;
+        if r.enough <= h.charged {
+            return;
         }
-        let y = next_holding(k.positive, &left.orderings, chart.ordering_count, x);
+        let y = next_holding(h.positive, &left.orderings, chart.ordering_count, x);
         if 32 + chart.ordering_count <= y {
-            return k;
+            return;
         }
-        let e = charge_one(chart, known, after, r, &k, y, left);
-        k = hints_after(chart, k, e, r.options, r.orderings, &*left);
+        let e = charge_one(chart, known, after, r, &*h, y, left);
+        hints_after(chart, h, e, r.options, r.orderings, &*left);
         x = next_item(y, e);
         turns -= 1;
     }
-    k
 }
 
 // Pairs first, then threes, then chains of any length: short ones leave the most to the others. It stops as soon as enough is charged.
@@ -81,14 +78,14 @@ fn charge_rounds(
     requires { (r.most ≤ 60) × (r.enough ≤ largest_sum + 1) × LeftFor chart.now left.old }
     ensures { KeepsCharged chart.now known.now 0 result left.old left.new }
 {
-    let h = hints_of(chart, r.options, r.orderings, &*left, 0);
+    let mut h = hints_of(chart, r.options, r.orderings, &*left, 0);
     let mut q = r;
-    let a = charge_items(chart, known, after, q, left, h);
+    charge_items(chart, known, after, q, left, &mut h);
     q.most = 3;
-    let b = charge_items(chart, known, after, q, left, a);
+    charge_items(chart, known, after, q, left, &mut h);
     q.most = 60;
-    let c = charge_items(chart, known, after, q, left, b);
-    c.charged
+    charge_items(chart, known, after, q, left, &mut h);
+    h.charged
 }
 
 // What was charged, and what is left of each item's weight.

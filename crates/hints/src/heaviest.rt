@@ -9,15 +9,7 @@ use picks::heaviest;
 pub fn heaviest_item(chart: &Chart, open_options: u32, open_orderings: u64) -> usize
     ensures { Picked open_options open_orderings chart.now.option_count chart.now.ordering_count result }
 {
-    let n = chart.option_count;
-    let m = chart.ordering_count;
     let left = residual::start(chart, open_options, open_orderings);
-    let held = with_orderings(
-        left.options,
-        &chart.firsts,
-        &chart.seconds,
-        &left.orderings,
-        m,
-    );
-    heaviest(&held, &left.orderings, open_options, open_orderings, n, m)
+    let held = with_orderings(chart, &left);
+    heaviest(chart, &held, &left.orderings, open_options, open_orderings)
 }

@@ -1,6 +1,5 @@
 // What the finder goes by: hints, of which nothing is promised.
-ghost use Rattle.std.specs.Prelude.{◌+◌, ◌≤◌, length};
-ghost use Rattle.hints.specs.Hints.{HintsAt};
+ghost use Rattle.std.specs.Prelude.{◌≡◌, ◌+◌, ◌≤◌, length};
 
 use chains::Hints;
 use chart::Chart;
@@ -8,21 +7,13 @@ use residual::Left;
 use std::num::wrapping_add_u32;
 
 // What an ordering holds counts at both its ends.
-pub fn with_orderings(
-    own: [u32; 32],
-    first: &[u8],
-    second: &[u8],
-    orderings: &[u32],
-    m: usize,
-) -> [u32; 32]
-    requires { (m ≤ length first.now) × (m ≤ length second.now) × (m ≤ length orderings.now) }
-{
-    let mut held = own;
+pub fn with_orderings(chart: &Chart, left: &Left) -> [u32; 32] {
+    let mut held = left.options;
     let mut u: usize = 0;
-    while u < m {
-        let a = (first[u] % 32) as usize;
-        let b = (second[u] % 32) as usize;
-        let w = orderings[u];
+    while u < chart.ordering_count {
+        let a = (chart.firsts[u] % 32) as usize;
+        let b = (chart.seconds[u] % 32) as usize;
+        let w = left.orderings[u];
         let x = held[a];
         held[a] = wrapping_add_u32(x, w);
         let y = held[b];
@@ -39,26 +30,11 @@ pub fn hints_of(
     left: &Left,
     charged: u32,
 ) -> Hints
-    ensures { HintsAt charged result }
+    ensures { result.charged ≡ charged }
 {
-    let n = chart.option_count;
-    let m = chart.ordering_count;
-    let held = with_orderings(
-        left.options,
-        &chart.firsts,
-        &chart.seconds,
-        &left.orderings,
-        m,
-    );
-    let soft = chains::soft_of(
-        &chart.firsts,
-        &chart.seconds,
-        &left.orderings,
-        open_orderings,
-        n,
-        m,
-    );
-    let positive = chains::positive_of(&held, open_options, n);
+    let held = with_orderings(chart, left);
+    let soft = chains::soft_of(chart, &left.orderings, open_orderings);
+    let positive = chains::positive_of(&held, open_options, chart.option_count);
     Hints {
         charged: charged,
         positive: positive,
@@ -67,22 +43,21 @@ pub fn hints_of(
     }
 }
 
-// The same after a charge of e; nothing moves if nothing was charged.
+// They are worked out again after a charge of e; nothing moves if nothing was charged.
 pub fn hints_after(
     chart: &Chart,
-    k: Hints,
+    k: &mut Hints,
     e: u32,
     open_options: u32,
     open_orderings: u64,
     left: &Left,
-) -> Hints
-    requires { (k.charged + e ≤ 10551136) × HintsAt k.charged k }
-    ensures { HintsAt (k.charged + e) result }
+)
+    requires { k.old.charged + e ≤ 10551136 }
+    ensures { k.new.charged ≡ k.old.charged + e }
 {
-    if e == 0 {
-        return k;
+    if e > 0 {
+        *k = hints_of(chart, open_options, open_orderings, left, k.charged + e);
     }
-    hints_of(chart, open_options, open_orderings, left, k.charged + e)
 }
 
 // An item that gave nothing more is left for the next one.

@@ -29,16 +29,16 @@ pub fn pick(chart: &Chart, back: &[u32; 32], open_options: u32, open_orderings: 
 
 // For the dive: the open item that holds most, options before orderings where they hold the same.
 pub fn heaviest(
-    held: &[u32],
-    left_orderings: &[u32],
+    chart: &Chart,
+    held: &[u32; 32],
+    left_orderings: &[u32; 64],
     open_options: u32,
     open_orderings: u64,
-    n: usize,
-    m: usize,
 ) -> usize
-    requires { (n ≤ 32) × (m ≤ 64) × (n ≤ length held.now) × (m ≤ length left_orderings.now) }
-    ensures { Picked open_options open_orderings n m result }
+    ensures { Picked open_options open_orderings chart.now.option_count chart.now.ordering_count result }
 {
+    let n = chart.option_count;
+    let m = chart.ordering_count;
     let i = greatest(held, open_options as u64, n);
     let u = greatest(left_orderings, open_orderings, m);
     if u == m {

@@ -68,7 +68,7 @@ module _ (chart : Chart) (want : ℕ) (g : Given) (apart : Apart chart g) (f : F
     kept_reduces : (s : Lines) (sh : ShowsSheet s chart) → Kept_here s sh
     kept_reduces s sh = reduces_keepable s sh.proper 0 d (size chart want g apart f by s sh)
         (no_contradiction_here chart want g apart f by h half e c bounded s sh) want (decisions_of chart k.given)
-        (keeps_keepable chart want g apart f by h half e after turn c bounded low spare es k kept s sh)
+        (keeps_keepable chart want g apart f by h half e c bounded after turn low spare es k kept s sh)
 
     -- an open slot is neither kept nor dropped
     not_dropped : (a b o : Bool) → o ≡ not (a || b) → T o → T b → ⊥
@@ -114,7 +114,7 @@ module _ (chart : Chart) (want : ℕ) (g : Given) (apart : Apart chart g) (f : F
         closes p l x o =
             let a = size chart want g apart f by s sh in
             let z = keeping_closes_one s sh.proper 0 d a (no_contradiction_here chart want g apart f by h half e c bounded s sh) want (decisions_of chart k.given)
-            (keeps_keepable chart want g apart f by h half e after turn c bounded low spare es k kept s sh) p l
+            (keeps_keepable chart want g apart f by h half e c bounded after turn low spare es k kept s sh) p l
             (λ y. subst (λ z. T (is_open z)) (ap (λ z. get_or z p Open) (sym (forced_shown chart s sh g apart f by)) ∙ sym y ∙ x) o) in
             let y = forcing_opens_nothing s sh.proper d a (fine chart want g apart f by s sh e) in omega arith
 

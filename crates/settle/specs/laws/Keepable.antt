@@ -61,6 +61,12 @@ turned {known} {after} {n} few w = record { at = λ p q l k. w.at q p (omega ari
 
 module _ (chart : Chart) (want : ℕ) (g : Given) (apart : Apart chart g) (f : Forced) (by : ForcedBy chart g f)
     (h : Half) (half : HalfDecidedAs chart f h) (fine : f.contradiction ≡ false) (c : Charged) (bounded : BoundedAs chart h.known h.open_options h.open_orderings c) where
+  abbrev n : ℕ
+  n = chart.option_count
+
+  abbrev m : ℕ
+  m = chart.ordering_count
+
   -- ---- what is charged
   module _ (s : Lines) (sh : ShowsSheet s chart) where
     abbrev d₀ : List Decision
@@ -69,17 +75,17 @@ module _ (chart : Chart) (want : ℕ) (g : Given) (apart : Apart chart g) (f : F
     abbrev b₀ : DecidedBySlot
     b₀ = decided_by_slot s d₀
 
-    same : counted chart.option_count chart.ordering_count (subscription s) ≡ subscription s
-    same = counted_is s chart.option_count chart.ordering_count sh.options sh.orderings
+    same : counted n m (subscription s) ≡ subscription s
+    same = counted_is s n m sh.options sh.orderings
 
-    fa : ForcedAs (counted chart.option_count chart.ordering_count (subscription s)) b₀ f
+    fa : ForcedAs (counted n m (subscription s)) b₀ f
     fa = subst (λ z. ForcedAs z b₀ f) (sym same) (forced_as chart s sh g apart f by)
 
     pub no_contradiction_here : T (not (contradiction (subscription s) b₀))
     no_contradiction_here = subst (λ z. T (not z)) (sym (sym (forced_as chart s sh g apart f by).contradicts ∙ fine)) tt
 
-    shows : ShowsKnown (subscription s) b₀ chart.option_count chart.ordering_count h.known chart.firsts chart.seconds
-    shows = subst (λ z. ShowsKnown (subscription s) b₀ chart.option_count chart.ordering_count z chart.firsts chart.seconds) (sym half.knows) (shows_known chart.ends sh.shows fa.known)
+    shows : ShowsKnown (subscription s) b₀ n m h.known chart.firsts chart.seconds
+    shows = subst (λ z. ShowsKnown (subscription s) b₀ n m z chart.firsts chart.seconds) (sym half.knows) (shows_known chart.ends sh.shows fa.known)
 
     -- it is charged on this sheet
     pub charged_here : R.Charged (subscription s) b₀ c.charged (residual_of c.left)
@@ -93,7 +99,7 @@ module _ (chart : Chart) (want : ℕ) (g : Given) (apart : Apart chart g) (f : F
         let q = upper_is chart want g apart f by s sh h half in omega arith
 
   -- ---- what is kept besides
-  module _ (after : List ℕ) (turn : C.Transposed h.known chart.option_count chart.option_count after) (low : want + c.charged ≤ h.upper)
+  module _ (after : List ℕ) (turn : C.Transposed h.known n n after) (low : want + c.charged ≤ h.upper)
       (spare : ℕ) (es : spare ≡ h.upper - want - c.charged) (k : More) (kept : KeptMore chart h after c.left spare (sets_of f) k) where
     abbrev d : List Decision
     d = decisions_of chart g
@@ -112,20 +118,20 @@ module _ (chart : Chart) (want : ℕ) (g : Given) (apart : Apart chart g) (f : F
       b = decided_by_slot s d
 
       abbrev w : Subscription
-      w = counted chart.option_count chart.ordering_count v
+      w = counted n m v
 
-      opens : Opens v b chart.option_count chart.ordering_count chart.firsts chart.seconds h.open_options h.open_orderings kept.begins kept.ends
+      opens : Opens v b n m chart.firsts chart.seconds h.open_options h.open_orderings kept.begins kept.ends
       opens = record { options = open_options_hold v b chart f h (fa s sh) half; orderings = open_orderings_hold v b chart f h (fa s sh) half; begin = kept.begin; end = kept.end }
 
       -- what may be kept by the arrays may be kept on the sheet
-      keepable : (x : ℕ) → Named chart.option_count chart.ordering_count x → T (L.item_open w b (numbered x)) → MayKeep chart h.known after h.open_options kept.begins kept.ends c.left spare x
+      keepable : (x : ℕ) → Named n m x → T (L.item_open w b (numbered x)) → MayKeep chart h.known after h.open_options kept.begins kept.ends c.left spare x
           → Keepable s sh.proper 0 d (size chart want g apart f by s sh) want (numbered x)
       keepable x named o (needed l) = K.needed c.charged r (charged_here s sh)
-          (let p = held_same v b chart.option_count chart.ordering_count h.known chart.firsts chart.seconds (shows s sh) r (numbered x) ∙ ap (λ z. held z r (numbered x)) (same s sh) in
+          (let p = held_same v b n m h.known chart.firsts chart.seconds (shows s sh) r (numbered x) ∙ ap (λ z. held z r (numbered x)) (same s sh) in
           let q = upper_is chart want g apart f by s sh h half in
           let fits = charged_fits s sh.proper 0 d (size chart want g apart f by s sh) (no_contradiction_here s sh) c.charged r (charged_here s sh) in omega arith)
       keepable x named o (loose y) = K.loose_item (subst (λ z. T (L.loose z b (numbered x))) (same s sh)
-          (loose_told v b chart.option_count chart.ordering_count h.known chart.firsts chart.seconds (shows s sh) h.open_options h.open_orderings kept.begins kept.ends opens x named after (turned chart.ends.few_options turn) o y))
+          (loose_told v b n m h.known chart.firsts chart.seconds (shows s sh) h.open_options h.open_orderings kept.begins kept.ends opens x named after (turned chart.ends.few_options turn) o y))
 
       -- ---- place by place
       -- the forced decisions, by the sets
@@ -133,7 +139,7 @@ module _ (chart : Chart) (want : ℕ) (g : Given) (apart : Apart chart g) (f : F
       forced_is = forced_shown chart s sh g apart f by
 
       -- what an open option's slot shows, and an open ordering's
-      option_is_open : (i : ℕ) → i < chart.option_count → T (has h.open_options i) → T (is_open (decision_of (has f.kept i) (has f.dropped i)))
+      option_is_open : (i : ℕ) → i < n → T (has h.open_options i) → T (is_open (decision_of (has f.kept i) (has f.dropped i)))
       option_is_open i l t = go (has f.kept i) (has f.dropped i) (subst T (holds_at half.options i l) t)
         where
           go : (a b : Bool) → T (not (a || b)) → T (is_open (decision_of a b))
@@ -141,7 +147,7 @@ module _ (chart : Chart) (want : ℕ) (g : Given) (apart : Apart chart g) (f : F
           go false true t = absurd t
           go false false t = tt
 
-      ordering_is_open : (u : ℕ) → u < chart.ordering_count → T (has h.open_orderings u) → T (is_open (decision_of (has f.kept_orderings u) (has f.dropped_orderings u)))
+      ordering_is_open : (u : ℕ) → u < m → T (has h.open_orderings u) → T (is_open (decision_of (has f.kept_orderings u) (has f.dropped_orderings u)))
       ordering_is_open u l t = go (has f.kept_orderings u) (has f.dropped_orderings u) (subst T (holds_at half.orderings u l) t)
         where
           go : (a b : Bool) → T (not (a || b)) → T (is_open (decision_of a b))
@@ -165,7 +171,7 @@ module _ (chart : Chart) (want : ℕ) (g : Given) (apart : Apart chart g) (f : F
 
       module _ (p : ℕ) where
         -- an option
-        option_place : p < chart.option_count → AsForcedOrKept s sh.proper 0 d (size chart want g apart f by s sh) want e p
+        option_place : p < n → AsForcedOrKept s sh.proper 0 d (size chart want g apart f by s sh) want e p
         unfolding item_at
         option_place l = at_place p (has f.kept p) (has k.given.kept p) (has f.dropped p) (numbered p)
             (option_stands chart k.given p l ∙ ap (λ z. decision_of (has k.given.kept p) (has z p)) kept.dropped)
@@ -173,16 +179,16 @@ module _ (chart : Chart) (want : ℕ) (g : Given) (apart : Apart chart g) (f : F
             (ap (λ z. cond z (option p) (ordering (p - length s.options))) (lt-ltb p (length s.options) (let q = sh.options in omega arith)) ∙ sym (numbered_option p (let q = chart.ends.few_options in omega arith)))
             (kept.option.keeps p) (λ t. go (kept.option.only p t))
           where
-            named : Named chart.option_count chart.ordering_count p
+            named : Named n m p
             named = record { option = λ _. l; ordering = λ k. (let q = chart.ends.few_options in absurd (omega arith)) }
 
-            go : T (has f.kept p) ⊎ ((p < chart.option_count) × T (has h.open_options p) × MayKeep chart h.known after h.open_options kept.begins kept.ends c.left spare p)
+            go : T (has f.kept p) ⊎ ((p < n) × T (has h.open_options p) × MayKeep chart h.known after h.open_options kept.begins kept.ends c.left spare p)
                 → T (has f.kept p) ⊎ (T (is_open (decision_of (has f.kept p) (has f.dropped p))) × Keepable s sh.proper 0 d (size chart want g apart f by s sh) want (numbered p))
             go (inl t) = inl t
             go (inr (_, t, y)) = inr (option_is_open p l t, keepable p named (subst (λ z. T (L.item_open w b z)) (sym (numbered_option p (let q = chart.ends.few_options in omega arith))) (subst T (holds_at opens.options p l) t)) y)
 
         -- an ordering
-        ordering_place : (u : ℕ) → u < chart.ordering_count → p ≡ chart.option_count + u → AsForcedOrKept s sh.proper 0 d (size chart want g apart f by s sh) want e p
+        ordering_place : (u : ℕ) → u < m → p ≡ n + u → AsForcedOrKept s sh.proper 0 d (size chart want g apart f by s sh) want e p
         unfolding item_at
         ordering_place u l q = at_place p (has f.kept_orderings u) (has k.given.kept_orderings u) (has f.dropped_orderings u) (numbered (32 + u))
             (ap (λ z. get_or e z Open) q ∙ ordering_stands chart k.given u l ∙ ap (λ z. decision_of (has k.given.kept_orderings u) (has z u)) kept.dropped_orderings)
@@ -190,10 +196,10 @@ module _ (chart : Chart) (want : ℕ) (g : Given) (apart : Apart chart g) (f : F
             (ap (λ z. cond z (option p) (ordering (p - length s.options))) (le-ltb p (length s.options) (let z = sh.options in omega arith)) ∙ ap ordering (let z = sh.options in let y : p - length s.options ≡ 32 + u - 32 = omega arith in y) ∙ sym (numbered_ordering (32 + u) (omega arith)))
             (kept.ordering.keeps u) (λ t. go (kept.ordering.only u t))
           where
-            named : Named chart.option_count chart.ordering_count (32 + u)
+            named : Named n m (32 + u)
             named = record { option = λ k. absurd (omega arith); ordering = λ _. (let y : 32 + u - 32 ≡ u = omega arith in omega arith) }
 
-            go : T (has f.kept_orderings u) ⊎ ((u < chart.ordering_count) × T (has h.open_orderings u) × MayKeep chart h.known after h.open_options kept.begins kept.ends c.left spare (32 + u))
+            go : T (has f.kept_orderings u) ⊎ ((u < m) × T (has h.open_orderings u) × MayKeep chart h.known after h.open_options kept.begins kept.ends c.left spare (32 + u))
                 → T (has f.kept_orderings u) ⊎ (T (is_open (decision_of (has f.kept_orderings u) (has f.dropped_orderings u))) × Keepable s sh.proper 0 d (size chart want g apart f by s sh) want (numbered (32 + u)))
             go (inl t) = inl t
             go (inr (_, t, y)) = inr (ordering_is_open u l t, keepable (32 + u) named (subst (λ z. T (L.item_open w b z)) (ap ordering (let y : u ≡ 32 + u - 32 = omega arith in y) ∙ sym (numbered_ordering (32 + u) (omega arith))) (subst T (holds_at opens.orderings u l) t)) y)
@@ -201,10 +207,10 @@ module _ (chart : Chart) (want : ℕ) (g : Given) (apart : Apart chart g) (f : F
       pub keeps_keepable : KeepsKeepable s sh.proper 0 d (size chart want g apart f by s sh) want e
       unfolding decisions_of
       keeps_keepable = record {
-        long = size_of s chart.option_count chart.ordering_count sh.options sh.orderings (λ i. decision_of (has k.given.kept i) (has k.given.dropped i)) (λ u. decision_of (has k.given.kept_orderings u) (has k.given.dropped_orderings u));
-        places = λ p l. go p l (ltb p chart.option_count) refl;
+        long = size_of s n m sh.options sh.orderings (λ i. decision_of (has k.given.kept i) (has k.given.dropped i)) (λ u. decision_of (has k.given.kept_orderings u) (has k.given.dropped_orderings u));
+        places = λ p l. go p l (ltb p n) refl;
       }
         where
-          go : (p : ℕ) → p < items s → (q : Bool) → ltb p chart.option_count ≡ q → AsForcedOrKept s sh.proper 0 d (size chart want g apart f by s sh) want e p
-          go p l true q = option_place p (ltb-true p chart.option_count q)
-          go p l false q = let y = ltb-false p chart.option_count q in let a = sh.options in let z = sh.orderings in ordering_place p (p - chart.option_count) (omega arith) (omega arith)
+          go : (p : ℕ) → p < items s → (q : Bool) → ltb p n ≡ q → AsForcedOrKept s sh.proper 0 d (size chart want g apart f by s sh) want e p
+          go p l true q = option_place p (ltb-true p n q)
+          go p l false q = let y = ltb-false p n q in let a = sh.options in let z = sh.orderings in ordering_place p (p - n) (omega arith) (omega arith)

@@ -13,21 +13,29 @@ use Rattle.numbered.specs.Shown.{ShowsKnown}
 use Rattle.chart.specs.declared.chart.Chart.{Chart}
 use Rattle.bound.specs.declared.charging.Charged.{Charged}
 
+-- The chart shows a half-decided sheet whose table this is.
+abbrev pub KnownOn : Chart → List ℕ → Subscription → DecidedBySlot → Type 0
+KnownOn chart known v d = ShowsKnown v d chart.option_count chart.ordering_count known chart.firsts chart.seconds
+
+-- So much may be charged on it if this is left of its weights.
+abbrev pub ChargedOn : Chart → Subscription → DecidedBySlot → ℕ → Left → Type 0
+ChargedOn chart v d charged left = R.Charged (counted chart.option_count chart.ordering_count v) d charged (residual_of left)
+
 -- One charge more, of e.
 pub record ChargesMore (chart : Chart) (known : List ℕ) (e : ℕ) (left left' : Left) : Type 0 where
   pub few : e ≤ 4259775
   pub left_in : LeftFor chart left'
-  pub keeps : (before : ℕ) (v : Subscription) (d : DecidedBySlot) → ShowsKnown v d chart.option_count chart.ordering_count known chart.firsts chart.seconds → R.Charged (counted chart.option_count chart.ordering_count v) d before (residual_of left) → R.Charged (counted chart.option_count chart.ordering_count v) d (before + e) (residual_of left')
+  pub keeps : (before : ℕ) (v : Subscription) (d : DecidedBySlot) → KnownOn chart known v d → ChargedOn chart v d before left → ChargedOn chart v d (before + e) left'
 
 -- On every half-decided sheet that the chart shows: if `before` was charged and this was left, then `after` is charged and that is left.
 pub record KeepsCharged (chart : Chart) (known : List ℕ) (before after : ℕ) (left left' : Left) : Type 0 where
   pub few : after ≤ 10551136
   pub left_in : LeftFor chart left'
-  pub keeps : (v : Subscription) (d : DecidedBySlot) → ShowsKnown v d chart.option_count chart.ordering_count known chart.firsts chart.seconds → R.Charged (counted chart.option_count chart.ordering_count v) d before (residual_of left) → R.Charged (counted chart.option_count chart.ordering_count v) d after (residual_of left')
+  pub keeps : (v : Subscription) (d : DecidedBySlot) → KnownOn chart known v d → ChargedOn chart v d before left → ChargedOn chart v d after left'
 
 -- So much is charged on every half-decided sheet that the chart shows and whose open items these are.
 pub record BoundedAs (chart : Chart) (known : List ℕ) (open_options open_orderings : ℕ) (c : Charged) : Type 0 where
   pub few : c.charged ≤ 10551136
   pub left_in : LeftFor chart c.left
-  pub charged : (v : Subscription) (d : DecidedBySlot) → ShowsKnown v d chart.option_count chart.ordering_count known chart.firsts chart.seconds → Weighs v chart.option_count chart.ordering_count chart.weights chart.ordering_weights
-      → Holds open_options chart.option_count (option_open (counted chart.option_count chart.ordering_count v) d) → Holds open_orderings chart.ordering_count (ordering_open (counted chart.option_count chart.ordering_count v) d) → R.Charged (counted chart.option_count chart.ordering_count v) d c.charged (residual_of c.left)
+  pub charged : (v : Subscription) (d : DecidedBySlot) → KnownOn chart known v d → Weighs v chart.option_count chart.ordering_count chart.weights chart.ordering_weights
+      → Holds open_options chart.option_count (option_open (counted chart.option_count chart.ordering_count v) d) → Holds open_orderings chart.ordering_count (ordering_open (counted chart.option_count chart.ordering_count v) d) → ChargedOn chart v d c.charged c.left

@@ -1,10 +1,8 @@
 -- Charging nothing, and one charge after another, keeps what is charged; from the start on it is a bound.
 use Rattle.std.specs.Prelude.{◌≡◌, List, ℕ, ◌+◌, ◌≤◌, ◌<◌}
 use Rattle.std.proofs.Common.{sym, subst, arith}
-use Rattle.rules.specs.laws.search.Charged as R
-use Rattle.graph.specs.Shown.{counted}
 use Rattle.half.specs.Weights.{largest_sum}
-use Rattle.residual.specs.Left.{residual_of, LeftFor}
+use Rattle.residual.specs.Left.{LeftFor}
 use Rattle.residual.specs.declared.starting.Left.{Left}
 use Rattle.residual.specs.Started.{StartsAs}
 use Rattle.charge.specs.Charges.{ChargedAs}
@@ -12,7 +10,7 @@ use Rattle.charge.specs.laws.Shown.{charge_charged}
 use Rattle.residual.specs.laws.Shown.{start_charged}
 use Rattle.chart.specs.declared.chart.Chart.{Chart}
 use Rattle.bound.specs.declared.charging.Charged.{Charged}
-use Rattle.bound.specs.Bound.{ChargesMore, KeepsCharged, BoundedAs}
+use Rattle.bound.specs.Bound.{ChargesMore, ChargedOn, KeepsCharged, BoundedAs}
 
 module _ {chart : Chart} {known : List ℕ} where
   pub charged_nothing : {before : ℕ} {left : Left} → before ≤ 10551136 → LeftFor chart left → KeepsCharged chart known before before left left
@@ -32,7 +30,7 @@ module _ {chart : Chart} {known : List ℕ} where
   charged_once_more {start} {before} {after} {e} {left} {left'} {left''} w more l q = record {
     few = (let f = more.few in omega arith);
     left_in = more.left_in;
-    keeps = λ v d sh c. subst (λ z. R.Charged (counted chart.option_count chart.ordering_count v) d z (residual_of left'')) (sym q) (more.keeps before v d sh (w.keeps v d sh c));
+    keeps = λ v d sh c. subst (λ z. ChargedOn chart v d z left'') (sym q) (more.keeps before v d sh (w.keeps v d sh c));
   }
 
   -- one after another

@@ -1,5 +1,4 @@
 // Which item a chain is looked for from next, and which open item's consequences weigh most: hints, of which nothing is promised but that an item is open.
-// For the crates above: counts and arrays handed in must be those of a record.
 #![tactic(auto)]
 
 mod heaviest;

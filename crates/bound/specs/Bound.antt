@@ -1,33 +1,41 @@
 -- What charging chains one after another comes to.
-use Rattle.std.specs.Prelude.{◌≡◌, List, ℕ, ◌+◌, ◌≤◌, length}
+use Rattle.std.specs.Prelude.{List, ℕ, ◌+◌, ◌≤◌}
 use Rattle.rules.specs.Subscription.{Subscription}
 use Rattle.rules.specs.Decisions.{DecidedBySlot}
 use Rattle.rules.specs.Limits.{option_open, ordering_open}
 use Rattle.rules.specs.laws.search.Charged as R
 use Rattle.rows.specs.Sets.{Holds}
 use Rattle.graph.specs.Shown.{counted}
-use Rattle.half.specs.Weights.{Weighs}
-use Rattle.residual.specs.Taken.{residual_in, LeftIn}
+use Rattle.chart.specs.Arrays.{Weighs}
+use Rattle.residual.specs.Left.{residual_of, LeftFor}
+use Rattle.residual.specs.declared.starting.Left.{Left}
 use Rattle.numbered.specs.Shown.{ShowsKnown}
+use Rattle.chart.specs.declared.chart.Chart.{Chart}
 use Rattle.bound.specs.declared.charging.Charged.{Charged}
 
+-- The chart shows a half-decided sheet whose table this is.
+abbrev pub KnownOn : Chart → List ℕ → Subscription → DecidedBySlot → Type 0
+KnownOn chart known v d = ShowsKnown v d chart.option_count chart.ordering_count known chart.firsts chart.seconds
+
+-- So much may be charged on it if this is left of its weights.
+abbrev pub ChargedOn : Chart → Subscription → DecidedBySlot → ℕ → Left → Type 0
+ChargedOn chart v d charged left = R.Charged (counted chart.option_count chart.ordering_count v) d charged (residual_of left)
+
 -- One charge more, of e.
-pub record ChargesMore (known firsts seconds : List ℕ) (n m e : ℕ) (options orderings options' orderings' : List ℕ) : Type 0 where
+pub record ChargesMore (chart : Chart) (known : List ℕ) (e : ℕ) (left left' : Left) : Type 0 where
   pub few : e ≤ 4259775
-  pub left_in : LeftIn n m options' orderings'
-  pub keeps : (before : ℕ) (v : Subscription) (d : DecidedBySlot) → ShowsKnown v d n m known firsts seconds → R.Charged (counted n m v) d before (residual_in options orderings) → R.Charged (counted n m v) d (before + e) (residual_in options' orderings')
+  pub left_in : LeftFor chart left'
+  pub keeps : (before : ℕ) (v : Subscription) (d : DecidedBySlot) → KnownOn chart known v d → ChargedOn chart v d before left → ChargedOn chart v d (before + e) left'
 
--- On every half-decided sheet that the arrays show: if `before` was charged and this was left, then `after` is charged and that is left.
-pub record KeepsCharged (known firsts seconds : List ℕ) (n m before after : ℕ) (options orderings options' orderings' : List ℕ) : Type 0 where
+-- On every half-decided sheet that the chart shows: if `before` was charged and this was left, then `after` is charged and that is left.
+pub record KeepsCharged (chart : Chart) (known : List ℕ) (before after : ℕ) (left left' : Left) : Type 0 where
   pub few : after ≤ 10551136
-  pub left_in : LeftIn n m options' orderings'
-  pub keeps : (v : Subscription) (d : DecidedBySlot) → ShowsKnown v d n m known firsts seconds → R.Charged (counted n m v) d before (residual_in options orderings) → R.Charged (counted n m v) d after (residual_in options' orderings')
+  pub left_in : LeftFor chart left'
+  pub keeps : (v : Subscription) (d : DecidedBySlot) → KnownOn chart known v d → ChargedOn chart v d before left → ChargedOn chart v d after left'
 
--- So much is charged on every half-decided sheet that the arrays show and whose open items these are.
-pub record BoundedAs (known firsts seconds : List ℕ) (n m : ℕ) (ws bs : List ℕ) (open_options open_orderings : ℕ) (c : Charged) : Type 0 where
+-- So much is charged on every half-decided sheet that the chart shows and whose open items these are.
+pub record BoundedAs (chart : Chart) (known : List ℕ) (open_options open_orderings : ℕ) (c : Charged) : Type 0 where
   pub few : c.charged ≤ 10551136
-  pub option_size : length c.left_options ≡ 32
-  pub ordering_size : length c.left_orderings ≡ 64
-  pub left_in : LeftIn n m c.left_options c.left_orderings
-  pub charged : (v : Subscription) (d : DecidedBySlot) → ShowsKnown v d n m known firsts seconds → Weighs v n m ws bs
-      → Holds open_options n (option_open (counted n m v) d) → Holds open_orderings m (ordering_open (counted n m v) d) → R.Charged (counted n m v) d c.charged (residual_in c.left_options c.left_orderings)
+  pub left_in : LeftFor chart c.left
+  pub charged : (v : Subscription) (d : DecidedBySlot) → KnownOn chart known v d → Weighs v chart.option_count chart.ordering_count chart.weights chart.ordering_weights
+      → Holds open_options chart.option_count (option_open (counted chart.option_count chart.ordering_count v) d) → Holds open_orderings chart.ordering_count (ordering_open (counted chart.option_count chart.ordering_count v) d) → ChargedOn chart v d c.charged c.left

@@ -2,11 +2,11 @@
 ghost use Rattle.std.specs.Prelude.{◌≡◌, ◌&&◌, ◌||◌, ◌≤◌, ◌<◌, get_or};
 ghost use Rattle.rows.specs.Bits.{has};
 ghost use Rattle.rows.specs.Sets.{Holds};
-ghost use Rattle.graph.specs.Graph.{EndsAreSlots};
-ghost use Rattle.half.specs.Weights.{HasWeights, largest_sum};
+ghost use Rattle.half.specs.Weights.{largest_sum};
 ghost use Rattle.half.specs.Half.{clashes_in, OpenFits};
-ghost use Rattle.cells.specs.Cells.{no_limit, weight_with_orderings_in, option_limit_in, ordering_limit_in};
+ghost use Rattle.cells.specs.Cells.{no_limit, touches_in, weight_with_orderings_in, option_limit_in, ordering_limit_in};
 
+use chart::Chart;
 use half::{Half, weigh, weigh_both};
 
 // What a value lies between, if an item is kept and if it is dropped.
@@ -19,9 +19,9 @@ pub struct Limit {
 }
 
 // The options that clash with i: each is known before the other.
-pub fn clash_row(t: [u32; 32], i: usize, n: usize) -> u32
+pub fn clash_row(t: &[u32; 32], i: usize, n: usize) -> u32
     requires { (n ≤ 32) × (i < 32) }
-    ensures { Holds result n (clashes_in t i) }
+    ensures { Holds result n (clashes_in t.now i) }
 {
     let row = t[i];
     let mut k: u32 = 0;
@@ -40,22 +40,14 @@ pub fn clash_row(t: [u32; 32], i: usize, n: usize) -> u32
 }
 
 // The orderings of a set that touch an option of a set.
-pub fn touching(
-    orderings: u64,
-    options: u32,
-    first: &[u8],
-    second: &[u8],
-    n: usize,
-    m: usize,
-) -> u64
-    requires { EndsAreSlots n m first.now second.now }
-    ensures { Holds result m (λ u. has orderings u && (has options (get_or first.now u 0) || has options (get_or second.now u 0))) }
+pub fn touching(chart: &Chart, orderings: u64, options: u32) -> u64
+    ensures { Holds result chart.now.ordering_count (touches_in chart.now orderings options) }
 {
     let mut k: u64 = 0;
     let mut u: usize = 0;
-    while u < m {
-        let a = first[u] as usize;
-        let b = second[u] as usize;
+    while u < chart.ordering_count {
+        let a = chart.firsts[u] as usize;
+        let b = chart.seconds[u] as usize;
         let x = rows::get(options, a);
         let y = rows::get(options, b);
         let z = rows::either(x, y);
@@ -68,24 +60,12 @@ pub fn touching(
 }
 
 // The weight of the open options of a set, and of the open orderings touching one of these.
-pub fn weight_with_orderings(
-    h: Half,
-    set: u32,
-    first: &[u8],
-    second: &[u8],
-    weights: &[u16],
-    ordering_weights: &[u16],
-    n: usize,
-    m: usize,
-) -> u32
-    requires { EndsAreSlots n m first.now second.now × HasWeights n m weights.now ordering_weights.now }
-    ensures { (result ≡ weight_with_orderings_in h n m first.now second.now weights.now ordering_weights.now (has set)) × (result ≤ largest_sum) }
+pub fn weight_with_orderings(chart: &Chart, h: &Half, set: u32) -> u32
+    ensures { (result ≡ weight_with_orderings_in chart.now h.now (has set)) × (result ≤ largest_sum) }
 {
-    let open = h.open_options;
-    let open_o = h.open_orderings;
-    let x = rows::meet(open, set);
-    let y = touching(open_o, x, first, second, n, m);
-    weigh_both(x, y, weights, ordering_weights, n, m)
+    let x = rows::meet(h.open_options, set);
+    let y = touching(chart, h.open_orderings, x);
+    weigh_both(chart, x, y)
 }
 
 pub fn no_limit() -> Limit
@@ -100,30 +80,18 @@ pub fn no_limit() -> Limit
 }
 
 // The limits of an option; none if it is decided.
-pub fn option_limit(
-    h: Half,
-    i: usize,
-    first: &[u8],
-    second: &[u8],
-    weights: &[u16],
-    ordering_weights: &[u16],
-    n: usize,
-    m: usize,
-) -> Limit
-    requires arrays_fit { EndsAreSlots n m first.now second.now × HasWeights n m weights.now ordering_weights.now }
-    requires open_fits { OpenFits h n m weights.now ordering_weights.now × (i < n) }
-    ensures { result ≡ option_limit_in h n m first.now second.now weights.now ordering_weights.now i }
+pub fn option_limit(chart: &Chart, h: &Half, i: usize) -> Limit
+    requires open_fits { OpenFits chart.now h.now × (i < chart.now.option_count) }
+    ensures { result ≡ option_limit_in chart.now h.now i }
 {
-    let open = h.open_options;
-    if !rows::get(open, i) {
+    if !rows::get(h.open_options, i) {
         return no_limit();
     }
-    let known = h.known;
-    let clash = clash_row(known, i, n);
-    let charged = weight_with_orderings(h, clash, first, second, weights, ordering_weights, n, m);
+    let clash = clash_row(&h.known, i, chart.option_count);
+    let charged = weight_with_orderings(chart, h, clash);
     let own = rows::put(0, i);
-    let forgone = weight_with_orderings(h, own, first, second, weights, ordering_weights, n, m);
-    let gain = weights[i] as u32;
+    let forgone = weight_with_orderings(chart, h, own);
+    let gain = chart.weights[i] as u32;
     let low = h.lower;
     let high = h.upper;
     Limit {
@@ -135,37 +103,24 @@ pub fn option_limit(
 }
 
 // The limits of an ordering; none if it is decided.
-pub fn ordering_limit(
-    h: Half,
-    u: usize,
-    first: &[u8],
-    second: &[u8],
-    weights: &[u16],
-    ordering_weights: &[u16],
-    n: usize,
-    m: usize,
-) -> Limit
-    requires arrays_fit { EndsAreSlots n m first.now second.now × HasWeights n m weights.now ordering_weights.now }
-    requires open_fits { OpenFits h n m weights.now ordering_weights.now × (u < m) }
-    ensures { result ≡ ordering_limit_in h n m first.now second.now weights.now ordering_weights.now u }
+pub fn ordering_limit(chart: &Chart, h: &Half, u: usize) -> Limit
+    requires open_fits { OpenFits chart.now h.now × (u < chart.now.ordering_count) }
+    ensures { result ≡ ordering_limit_in chart.now h.now u }
 {
-    let open_o = h.open_orderings;
-    if !rows::get64(open_o, u) {
+    if !rows::get64(h.open_orderings, u) {
         return no_limit();
     }
-    let open = h.open_options;
-    let known = h.known;
-    let x = first[u] as usize;
-    let y = second[u] as usize;
-    let before = clash_row(known, x, n);
-    let after = clash_row(known, y, n);
+    let x = chart.firsts[u] as usize;
+    let y = chart.seconds[u] as usize;
+    let before = clash_row(&h.known, x, chart.option_count);
+    let after = clash_row(&h.known, y, chart.option_count);
     let clash = rows::join(before, after);
-    let charged = weight_with_orderings(h, clash, first, second, weights, ordering_weights, n, m);
+    let charged = weight_with_orderings(chart, h, clash);
     let one = rows::put(0, x);
     let two = rows::put(one, y);
-    let ends = rows::meet(open, two);
-    let needed = weigh(ends as u64, weights, n);
-    let gain = ordering_weights[u] as u32;
+    let ends = rows::meet(h.open_options, two);
+    let needed = weigh(ends as u64, &chart.weights, chart.option_count);
+    let gain = chart.ordering_weights[u] as u32;
     let low = h.lower;
     let high = h.upper;
     Limit {

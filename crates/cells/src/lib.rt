@@ -1,5 +1,5 @@
 // The limits of one item of a half-decided sheet, kept and dropped.
-// For the crates above: counts and arrays handed in must be those of a record.
+// For the crates above: the half-decided sheet must be one that forcing left.
 #![tactic(auto)]
 
 mod cells;

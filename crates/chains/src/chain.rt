@@ -1,10 +1,20 @@
 // A closed chain of open items, found breadth first.
 ghost use Rattle.std.specs.Prelude.{◌≤◌, ◌<◌, length};
-ghost use Rattle.chains.specs.Lent.{Lent};
 
 use crate::level::{Front, Goal, joined_rows, levels};
 use crate::member::end_of;
 use crate::walk::walk_back;
+use chart::Chart;
+
+// What the finder goes by: what is charged so far, the open options whose consequences still hold something, how much they hold, and between
+// which options an open ordering still holds something.
+#[derive(Clone, Copy)]
+pub struct Hints {
+    pub charged: u32,
+    pub positive: u32,
+    pub held: [u32; 32],
+    pub soft: [u32; 32],
+}
 
 // Items are numbered from 0 for options and from 32 for orderings. Where there is no chain, the length is 0.
 #[derive(Clone, Copy)]
@@ -59,46 +69,32 @@ fn goes_on(soft: &[u32], positive: u32, f: Front) -> bool
 
 // A shortest closed chain through item x, of at most `most` open items that each still hold something. A hint: nothing is promised of its links.
 pub fn find(
-    known: &[u32],
-    after: &[u32],
-    first: &[u8],
-    second: &[u8],
-    m: usize,
-    positive: u32,
-    soft: &[u32],
-    held: &[u32],
-    left_orderings: &[u32],
+    chart: &Chart,
+    known: &[u32; 32],
+    after: &[u32; 32],
+    hints: &Hints,
+    left_orderings: &[u32; 64],
     x: usize,
     most: usize,
 ) -> Chain
-    requires { Lent known.now after.now first.now second.now soft.now held.now left_orderings.now m × (most ≤ 60) }
+    requires { most ≤ 60 }
     ensures { result.len ≤ 64 }
 {
-    if x >= 32 + m {
+    if x >= 32 + chart.ordering_count {
         return none();
     }
     let meets = x >= 32;
-    let a = end_of(first, m, x);
-    let b = end_of(second, m, x);
+    let a = end_of(&chart.firsts, chart.ordering_count, x);
+    let b = end_of(&chart.seconds, chart.ordering_count, x);
     let f = start(known, a, b, meets);
-    if !goes_on(soft, positive, f) {
+    if !goes_on(&hints.soft, hints.positive, f) {
         return none();
     }
     let mut page: [u32; 192] = [0; 192];
     let goal = goal_of(after, a, meets);
-    let last = levels(known, soft, positive, f, goal, most, &mut page);
+    let last = levels(known, &hints.soft, hints.positive, f, goal, most, &mut page);
     if last == 0 {
         return none();
     }
-    walk_back(
-        after,
-        first,
-        second,
-        left_orderings,
-        held,
-        m,
-        &page,
-        x,
-        last,
-    )
+    walk_back(chart, after, left_orderings, &hints.held, &page, x, last)
 }

@@ -1,8 +1,9 @@
 // What still holds something: the hints that the finder walks by.
 ghost use Rattle.std.specs.Prelude.{◌≡◌, not, ◌≤◌, ◌<◌, length, get_or, eqb};
 ghost use Rattle.rows.specs.Sets.{Holds};
-ghost use Rattle.graph.specs.Graph.{EndsAreSlots};
 ghost use Rattle.chains.specs.Held.{holds_some, Soft};
+
+use chart::Chart;
 
 // Whether something is left of item i.
 fn left_some(left: &[u32], i: usize) -> bool
@@ -30,20 +31,19 @@ fn holding(left: &[u32], open_items: u64, n: usize) -> u64
 }
 
 // Row a holds b if an open ordering of a before b still holds something.
-pub fn soft_of(
-    first: &[u8],
-    second: &[u8],
-    left_orderings: &[u32],
-    open_orderings: u64,
-    n: usize,
-    m: usize,
-) -> [u32; 32]
-    requires { EndsAreSlots n m first.now second.now × (m ≤ length left_orderings.now) }
-    ensures { Soft first.now second.now left_orderings.now open_orderings m result }
+pub fn soft_of(chart: &Chart, left_orderings: &[u32; 64], open_orderings: u64) -> [u32; 32]
+    ensures { Soft chart.now.firsts chart.now.seconds left_orderings.now open_orderings chart.now.ordering_count result }
 {
     let none: [u32; 32] = [0; 32];
-    let set = holding(left_orderings, open_orderings, m);
-    graph::put_orderings(none, set, first, second, n, m)
+    let set = holding(left_orderings, open_orderings, chart.ordering_count);
+    graph::put_orderings(
+        none,
+        set,
+        &chart.firsts,
+        &chart.seconds,
+        chart.option_count,
+        chart.ordering_count,
+    )
 }
 
 // The open options whose consequences still hold something.

@@ -1,6 +1,5 @@
 // Chains of open items that cannot all be kept: hints for the search, on which no answer rests.
 // Whoever charges a chain checks its links again, so the finder is safe and ends, and promises no more.
-// For the crates above: the arrays lent must have the sheet's sizes.
 #![tactic(auto)]
 
 mod chain;
@@ -9,6 +8,6 @@ mod level;
 mod member;
 mod walk;
 
-pub use chain::{Chain, find};
+pub use chain::{Chain, Hints, find};
 pub use held::{positive_of, soft_of};
 pub use member::{end_at, lowest, without_lowest};

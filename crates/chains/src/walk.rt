@@ -3,6 +3,7 @@ ghost use Rattle.std.specs.Prelude.{◌+◌, ◌≤◌, ◌<◌, max, length};
 
 use crate::chain::{Chain, none};
 use crate::member::{end_at, end_of, lowest, without_lowest};
+use chart::Chart;
 
 // An item and what it holds; an item that holds nothing stands for none.
 #[derive(Clone, Copy)]
@@ -44,31 +45,23 @@ fn best_option(set: u32, held: &[u32]) -> Best
 }
 
 // Whether ordering u begins in one set and ends in the other.
-fn leads(first: &[u8], second: &[u8], u: usize, from: u32, to: u32) -> bool
-    requires { (u < length first.now) × (u < length second.now) }
+fn leads(chart: &Chart, u: usize, from: u32, to: u32) -> bool
+    requires { u < 64 }
 {
-    let a = end_at(first, u);
-    let b = end_at(second, u);
+    let a = end_at(&chart.firsts, u);
+    let b = end_at(&chart.seconds, u);
     rows::get(from, a) && rows::get(to, b)
 }
 
 // The item given, or an ordering from one set to the other that holds more.
-fn best_ordering(
-    first: &[u8],
-    second: &[u8],
-    left_orderings: &[u32],
-    m: usize,
-    from: u32,
-    to: u32,
-    best: Best,
-) -> Best
-    requires { (m ≤ 64) × (m ≤ length first.now) × (m ≤ length second.now) × (m ≤ length left_orderings.now) × (best.item < 32) }
-    ensures { result.item < 32 + m }
+fn best_ordering(chart: &Chart, left_orderings: &[u32; 64], from: u32, to: u32, best: Best) -> Best
+    requires { best.item < 32 }
+    ensures { result.item < 32 + chart.now.ordering_count }
 {
     let mut k = best;
     let mut u: usize = 0;
-    while u < m {
-        let yes = leads(first, second, u, from, to);
+    while u < chart.ordering_count {
+        let yes = leads(chart, u, from, to);
         k = better(k, 32 + u, left_orderings[u], yes);
         u += 1;
     }
@@ -87,47 +80,34 @@ fn level_at(page: &[u32; 192], l: usize) -> LevelSets
 
 // The item of a level that leads to option t and holds most; orderings that end at t itself count where an ordering begins there.
 fn best_of_level(
-    after: &[u32],
-    first: &[u8],
-    second: &[u8],
-    left_orderings: &[u32],
-    held: &[u32],
-    m: usize,
+    chart: &Chart,
+    after: &[u32; 32],
+    left_orderings: &[u32; 64],
+    held: &[u32; 32],
     at: LevelSets,
     t: usize,
     meets: bool,
 ) -> Best
-    requires m_bound { (m ≤ 64) × (m ≤ length first.now) × (m ≤ length second.now) × (m ≤ length left_orderings.now) }
-    requires in_bounds { (32 ≤ length after.now) × (32 ≤ length held.now) × (t < 32) }
-    ensures { result.item < 32 + m }
+    requires { t < 32 }
+    ensures { result.item < 32 + chart.now.ordering_count }
 {
     let into = after[t];
     let ends = rows::put_if(into, t, meets);
     let k = best_option(at.options & into, held);
-    best_ordering(
-        first,
-        second,
-        left_orderings,
-        m,
-        at.from,
-        at.seconds & ends,
-        k,
-    )
+    best_ordering(chart, left_orderings, at.from, at.seconds & ends, k)
 }
 
 // From the closing level down to the first one; item x itself stands first in the chain.
 pub fn walk_back(
-    after: &[u32],
-    first: &[u8],
-    second: &[u8],
-    left_orderings: &[u32],
-    held: &[u32],
-    m: usize,
+    chart: &Chart,
+    after: &[u32; 32],
+    left_orderings: &[u32; 64],
+    held: &[u32; 32],
     page: &[u32; 192],
     x: usize,
     last: usize,
 ) -> Chain
-    requires { (m ≤ 64) × (m ≤ length first.now) × (m ≤ length second.now) × (m ≤ length left_orderings.now) × (32 ≤ length after.now) × (32 ≤ length held.now) × (x < 32 + m) × (last < 60) }
+    requires { (x < 32 + chart.now.ordering_count) × (last < 60) }
     ensures { result.len ≤ 64 }
 {
     let mut items: [u8; 64] = [0; 64];
@@ -135,10 +115,10 @@ pub fn walk_back(
     let mut item = x;
     let mut l = last;
     while l > 0 {
-        let t = end_of(first, m, item);
+        let t = end_of(&chart.firsts, chart.ordering_count, item);
         let at = level_at(page, l);
         let meets = item >= 32;
-        let b = best_of_level(after, first, second, left_orderings, held, m, at, t, meets);
+        let b = best_of_level(chart, after, left_orderings, held, at, t, meets);
         if b.holds == 0 {
             return none();
         }

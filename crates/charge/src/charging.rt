@@ -1,13 +1,13 @@
 // One charge: the least that a member's consequences hold, taken from the consequences of every member.
 ghost use Rattle.std.specs.Prelude.{◌≤◌, length};
-ghost use Rattle.graph.specs.Graph.{EndsAreSlots};
 ghost use Rattle.links.specs.Links.{AllNamed};
-ghost use Rattle.residual.specs.Taken.{LeftIn};
+ghost use Rattle.residual.specs.Left.{LeftFor};
 ghost use Rattle.residual.specs.TakenAll.{Measured};
 ghost use Rattle.charge.specs.Charges.{ChargedAs};
 
+use chart::Chart;
 use links::{all_named, closed};
-use residual::{held_by, take_all};
+use residual::{Left, held_by, take_all};
 
 // What the members hold, and the least of it.
 #[derive(Clone, Copy)]
@@ -16,25 +16,16 @@ pub struct Measure {
     pub was: [u32; 64],
 }
 
-pub fn measure_all(
-    first: &[u8],
-    second: &[u8],
-    n: usize,
-    m: usize,
-    options: &[u32],
-    orderings: &[u32],
-    chain: &[u8],
-    len: usize,
-) -> Measure
-    requires { EndsAreSlots n m first.now second.now × AllNamed chain.now len n m × (len ≤ length chain.now) × (len ≤ 64) × LeftIn n m options.now orderings.now }
-    ensures { Measured first.now second.now n m options.now orderings.now chain.now len result.least result.was × (result.least ≤ 4259775) }
+pub fn measure_all(chart: &Chart, left: &Left, chain: &[u8], len: usize) -> Measure
+    requires { AllNamed chain.now len chart.now.option_count chart.now.ordering_count × (len ≤ length chain.now) × (len ≤ 64) × LeftFor chart.now left.now }
+    ensures { Measured chart.now.firsts chart.now.seconds chart.now.option_count chart.now.ordering_count left.now.options left.now.orderings chain.now len result.least result.was × (result.least ≤ 4259775) }
 {
     let mut was: [u32; 64] = [0; 64];
     let mut least: u32 = 4259775;
     let mut p: usize = 0;
     while p < len {
         let x = chain[p];
-        let h = held_by(first, second, n, m, options, orderings, x);
+        let h = held_by(chart, left, x);
         was[p] = h;
         if h < least {
             least = h;
@@ -48,19 +39,9 @@ pub fn measure_all(
 }
 
 // The chain is checked again, and only then is anything taken: whoever found it need promise nothing. What is charged comes back.
-pub fn charge(
-    known: &[u32],
-    first: &[u8],
-    second: &[u8],
-    n: usize,
-    m: usize,
-    chain: &[u8],
-    len: usize,
-    options: &mut [u32],
-    orderings: &mut [u32],
-) -> u32
-    requires { EndsAreSlots n m first.now second.now × (n ≤ length known.now) × (len ≤ length chain.now) × LeftIn n m options.old orderings.old }
-    ensures { ChargedAs known.now first.now second.now n m chain.now len result options.old orderings.old options.new orderings.new }
+pub fn charge(chart: &Chart, known: &[u32], chain: &[u8], len: usize, left: &mut Left) -> u32
+    requires { (chart.now.option_count ≤ length known.now) × (len ≤ length chain.now) × LeftFor chart.now left.old }
+    ensures { ChargedAs known.now chart.now.firsts chart.now.seconds chart.now.option_count chart.now.ordering_count chain.now len result left.old.options left.old.orderings left.new.options left.new.orderings }
 {
     if len == 0 {
         return 0;
@@ -68,17 +49,17 @@ pub fn charge(
     if len > 64 {
         return 0;
     }
-    let named = all_named(chain, len, n, m);
+    let named = all_named(chain, len, chart.option_count, chart.ordering_count);
     if !named {
         return 0;
     }
-    let closes = closed(known, first, second, n, m, chain, len);
+    let closes = closed(chart, known, chain, len);
     if !closes {
         return 0;
     }
-    let t = measure_all(first, second, n, m, &*options, &*orderings, chain, len);
+    let t = measure_all(chart, &*left, chain, len);
     let e = t.least;
     let was = t.was;
-    take_all(first, second, n, m, options, orderings, chain, len, e, was);
+    take_all(chart, left, chain, len, e, was);
     e
 }

@@ -1,5 +1,5 @@
 // Charged conflicts: one closed chain of items charged against what is left of their weights.
-// For the crates above: arrays and rows handed in must be those of a record; a chain may hold any numbers.
+// For the crates above: a chain may hold any numbers.
 #![tactic(auto)]
 
 mod charging;

@@ -9,6 +9,7 @@ use Rattle.rows.specs.Bits.{has}
 use Rattle.rows.specs.Sets.{Holds, Table}
 use Rattle.given.specs.Given.{Gives}
 use Rattle.graph.specs.Shown.{counted, Shows}
+use Rattle.chart.specs.declared.chart.Chart.{Chart}
 use Rattle.given.specs.declared.sets.Given.{Given}
 use Rattle.forced.specs.declared.forcing.Forced.{Forced}
 
@@ -29,7 +30,7 @@ pub record ForcedAs (v : Subscription) (b : DecidedBySlot) (r : Forced) : Type 0
   pub known : Table r.known v.option_count (known_before v b)
   pub contradicts : r.contradiction ≡ contradiction v b
 
--- Whatever subscription the arrays show, and whatever decisions give these sets.
-abbrev pub ForcedBy : (n m : ℕ) (firsts seconds rows : List ℕ) → Given → Forced → Type 0
-ForcedBy n m firsts seconds rows g r =
-    (v : Subscription) (b : DecidedBySlot) → Shows v n m firsts seconds rows → Gives b n m g → ForcedAs (counted n m v) b r
+-- Whatever subscription the chart shows, and whatever decisions give these sets.
+abbrev pub ForcedBy : Chart → Given → Forced → Type 0
+ForcedBy chart g r = let n = chart.option_count in let m = chart.ordering_count in
+    (v : Subscription) (b : DecidedBySlot) → Shows v n m chart.firsts chart.seconds chart.rows → Gives b n m g → ForcedAs (counted n m v) b r

@@ -1,8 +1,8 @@
 // Everything that a decision list forces.
-ghost use Rattle.graph.specs.Graph.{EndsAreSlots};
 ghost use Rattle.forced.specs.Forced.{ForcedBy};
 
 use crate::parts::{dropped_options, dropped_orderings, kept_options, meets};
+use chart::Chart;
 use given::Given;
 
 #[derive(Clone, Copy)]
@@ -16,13 +16,16 @@ pub struct Forced {
 }
 
 // No repetition is needed: kept options follow from what is given, known before from those, dropped options from that, dropped orderings from that.
-pub fn force(g: Given, t: [u32; 32], first: &[u8], second: &[u8], n: usize, m: usize) -> Forced
-    requires { EndsAreSlots n m first.now second.now }
-    ensures { ForcedBy n m first.now second.now t g result }
+pub fn force(chart: &Chart, g: Given) -> Forced
+    ensures { ForcedBy chart.now g result }
 {
+    let n = chart.option_count;
+    let m = chart.ordering_count;
+    let first = &chart.firsts;
+    let second = &chart.seconds;
     let kept_orderings = g.kept_orderings;
     let kept = kept_options(g.kept, kept_orderings, first, second, n, m);
-    let start = graph::put_orderings(t, kept_orderings, first, second, n, m);
+    let start = graph::put_orderings(chart.rows, kept_orderings, first, second, n, m);
     let known = graph::join_through_all(start, kept, n);
     let dropped = dropped_options(g.dropped, known, n);
     let lost = dropped_orderings(g.dropped_orderings, dropped, known, first, second, n, m);

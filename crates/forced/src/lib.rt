@@ -1,4 +1,4 @@
-// Forced decisions of a half-decided sheet. For the crates above: the arrays handed in must be those of a record.
+// Forced decisions of a half-decided sheet.
 #![tactic(auto)]
 
 mod forcing;

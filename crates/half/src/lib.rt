@@ -1,5 +1,4 @@
 // A half-decided sheet after forcing: what is open, what is kept in weight and what can still be had.
-// For the crates above: counts and arrays handed in must be those of a record.
 #![tactic(auto)]
 
 mod opened;

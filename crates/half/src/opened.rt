@@ -2,10 +2,10 @@
 ghost use Rattle.std.specs.Prelude.{◌||◌, not, ◌+◌, ◌≤◌, ◌<◌};
 ghost use Rattle.rows.specs.Bits.{has};
 ghost use Rattle.rows.specs.Sets.{Holds};
-ghost use Rattle.half.specs.Weights.{HasWeights};
 ghost use Rattle.half.specs.Half.{HalfDecidedAs};
 
 use crate::weights::{weigh_all, weigh_both};
+use chart::Chart;
 use forced::Forced;
 
 // What the limits are worked out from: the open items, what is known, the weight kept and the weight not dropped.
@@ -51,30 +51,18 @@ pub fn open_orderings(kept: u64, dropped: u64, m: usize) -> u64
 }
 
 // The half-decided sheet that forced decisions leave.
-pub fn half_decided(
-    f: Forced,
-    weights: &[u16],
-    ordering_weights: &[u16],
-    n: usize,
-    m: usize,
-) -> Half
-    requires { HasWeights n m weights.now ordering_weights.now }
-    ensures { HalfDecidedAs f n m weights.now ordering_weights.now result }
+pub fn half_decided(chart: &Chart, f: &Forced) -> Half
+    ensures { HalfDecidedAs chart.now f.now result }
 {
+    let n = chart.option_count;
+    let m = chart.ordering_count;
     let known = f.known;
     let open = open_options(f.kept, f.dropped, n);
     let open_o = open_orderings(f.kept_orderings, f.dropped_orderings, m);
-    let low = weigh_both(f.kept, f.kept_orderings, weights, ordering_weights, n, m);
-    let x = weigh_all(weights, n);
-    let y = weigh_all(ordering_weights, m);
-    let gone = weigh_both(
-        f.dropped,
-        f.dropped_orderings,
-        weights,
-        ordering_weights,
-        n,
-        m,
-    );
+    let low = weigh_both(chart, f.kept, f.kept_orderings);
+    let x = weigh_all(&chart.weights, n);
+    let y = weigh_all(&chart.ordering_weights, m);
+    let gone = weigh_both(chart, f.dropped, f.dropped_orderings);
     let high = x + y - gone;
     Half {
         open_options: open,

@@ -2,7 +2,10 @@
 ghost use Rattle.std.specs.Prelude.{◌≡◌, ◌+◌, ◌*◌, ◌≤◌, ◌<◌, get_or, length};
 ghost use Rattle.rules.specs.Slots.{sum, pick, over};
 ghost use Rattle.rows.specs.Bits.{has};
-ghost use Rattle.half.specs.Weights.{HasWeights, largest_sum};
+ghost use Rattle.half.specs.Half.{weight_of_sets};
+ghost use Rattle.half.specs.Weights.{largest_sum};
+
+use chart::Chart;
 
 // A weight if asked, and else nothing.
 pub fn weight_if(yes: bool, w: u16) -> u32
@@ -45,18 +48,10 @@ pub fn weigh_all(w: &[u16], n: usize) -> u32
 }
 
 // The weight of a set of options and a set of orderings.
-pub fn weigh_both(
-    options: u32,
-    orderings: u64,
-    weights: &[u16],
-    ordering_weights: &[u16],
-    n: usize,
-    m: usize,
-) -> u32
-    requires { HasWeights n m weights.now ordering_weights.now }
-    ensures { (result ≡ over n (λ i. get_or weights.now i 0) (has options) + over m (λ u. get_or ordering_weights.now u 0) (has orderings)) × (result ≤ largest_sum) }
+pub fn weigh_both(chart: &Chart, options: u32, orderings: u64) -> u32
+    ensures { (result ≡ weight_of_sets chart.now (has options) (has orderings)) × (result ≤ largest_sum) }
 {
-    let x = weigh(options as u64, weights, n);
-    let y = weigh(orderings, ordering_weights, m);
+    let x = weigh(options as u64, &chart.weights, chart.option_count);
+    let y = weigh(orderings, &chart.ordering_weights, chart.ordering_count);
     x + y
 }

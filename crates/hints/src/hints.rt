@@ -1,36 +1,19 @@
 // What the finder goes by: hints, of which nothing is promised.
-ghost use Rattle.std.specs.Prelude.{◌+◌, ◌≤◌, length};
-ghost use Rattle.graph.specs.Graph.{EndsAreSlots};
-ghost use Rattle.hints.specs.Hints.{HintsAt};
+ghost use Rattle.std.specs.Prelude.{◌≡◌, ◌+◌, ◌≤◌, length};
 
+use chains::Hints;
+use chart::Chart;
+use residual::Left;
 use std::num::wrapping_add_u32;
 
-// What is charged so far, the open options whose consequences still hold something, how much they hold, and between which options an open
-// ordering still holds something.
-#[derive(Clone, Copy)]
-pub struct Hints {
-    pub charged: u32,
-    pub positive: u32,
-    pub held: [u32; 32],
-    pub soft: [u32; 32],
-}
-
 // What an ordering holds counts at both its ends.
-pub fn with_orderings(
-    own: [u32; 32],
-    first: &[u8],
-    second: &[u8],
-    orderings: &[u32],
-    m: usize,
-) -> [u32; 32]
-    requires { (m ≤ length first.now) × (m ≤ length second.now) × (m ≤ length orderings.now) }
-{
-    let mut held = own;
+pub fn with_orderings(chart: &Chart, left: &Left) -> [u32; 32] {
+    let mut held = left.options;
     let mut u: usize = 0;
-    while u < m {
-        let a = (first[u] % 32) as usize;
-        let b = (second[u] % 32) as usize;
-        let w = orderings[u];
+    while u < chart.ordering_count {
+        let a = (chart.firsts[u] % 32) as usize;
+        let b = (chart.seconds[u] % 32) as usize;
+        let w = left.orderings[u];
         let x = held[a];
         held[a] = wrapping_add_u32(x, w);
         let y = held[b];
@@ -40,36 +23,18 @@ pub fn with_orderings(
     held
 }
 
-fn first_32(options: &[u32], n: usize) -> [u32; 32]
-    requires { (n ≤ 32) × (n ≤ length options.now) }
-{
-    let mut own: [u32; 32] = [0; 32];
-    let mut i: usize = 0;
-    while i < n {
-        own[i] = options[i];
-        i += 1;
-    }
-    own
-}
-
 pub fn hints_of(
-    first: &[u8],
-    second: &[u8],
-    n: usize,
-    m: usize,
+    chart: &Chart,
     open_options: u32,
     open_orderings: u64,
-    options: &[u32],
-    orderings: &[u32],
+    left: &Left,
     charged: u32,
 ) -> Hints
-    requires { EndsAreSlots n m first.now second.now × (n ≤ length options.now) × (m ≤ length orderings.now) }
-    ensures { HintsAt charged result }
+    ensures { result.charged ≡ charged }
 {
-    let own = first_32(options, n);
-    let held = with_orderings(own, first, second, orderings, m);
-    let soft = chains::soft_of(first, second, orderings, open_orderings, n, m);
-    let positive = chains::positive_of(&held, open_options, n);
+    let held = with_orderings(chart, left);
+    let soft = chains::soft_of(chart, &left.orderings, open_orderings);
+    let positive = chains::positive_of(&held, open_options, chart.option_count);
     Hints {
         charged: charged,
         positive: positive,
@@ -78,36 +43,21 @@ pub fn hints_of(
     }
 }
 
-// The same after a charge of e; nothing moves if nothing was charged.
+// They are worked out again after a charge of e; nothing moves if nothing was charged.
 pub fn hints_after(
-    k: Hints,
+    chart: &Chart,
+    k: &mut Hints,
     e: u32,
-    first: &[u8],
-    second: &[u8],
-    n: usize,
-    m: usize,
     open_options: u32,
     open_orderings: u64,
-    options: &[u32],
-    orderings: &[u32],
-) -> Hints
-    requires { EndsAreSlots n m first.now second.now × (n ≤ length options.now) × (m ≤ length orderings.now) × (k.charged + e ≤ 10551136) × HintsAt k.charged k }
-    ensures { HintsAt (k.charged + e) result }
+    left: &Left,
+)
+    requires { k.old.charged + e ≤ 10551136 }
+    ensures { k.new.charged ≡ k.old.charged + e }
 {
-    if e == 0 {
-        return k;
+    if e > 0 {
+        *k = hints_of(chart, open_options, open_orderings, left, k.charged + e);
     }
-    hints_of(
-        first,
-        second,
-        n,
-        m,
-        open_options,
-        open_orderings,
-        options,
-        orderings,
-        k.charged + e,
-    )
 }
 
 // An item that gave nothing more is left for the next one.

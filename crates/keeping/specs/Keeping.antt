@@ -1,17 +1,20 @@
 -- Open items that are kept beside the forced ones.
 use Rattle.std.specs.Prelude.{◌≡◌, Bool, true, false, ◌||◌, List, ◌⊎◌, ℕ, ◌+◌, ◌<◌, T}
+use Rattle.chart.specs.declared.chart.Chart.{Chart}
 use Rattle.rules.specs.laws.search.Residual.{held}
 use Rattle.rows.specs.Bits.{has}
 use Rattle.numbered.specs.Items.{numbered, ends_only}
-use Rattle.residual.specs.Taken.{residual_in}
+use Rattle.residual.specs.Left.{residual_of}
+use Rattle.residual.specs.declared.starting.Left.{Left}
+use Rattle.half.specs.declared.opened.Half.{Half}
 use Rattle.loose.specs.Loose.{EndsOf, LooseBy}
 use Rattle.given.specs.declared.sets.Given.{Given}
 use Rattle.keeping.specs.declared.keeping.More.{More}
 
 -- Item x may be kept: its consequences hold more than can be spared, or it is loose.
-pub data MayKeep (known after firsts seconds : List ℕ) (n m opens begins ends : ℕ) (options orderings : List ℕ) (spare x : ℕ) : Type 0 where
-  needed : spare < held (ends_only n m firsts seconds) (residual_in options orderings) (numbered x) → MayKeep known after firsts seconds n m opens begins ends options orderings spare x
-  loose : LooseBy known after firsts seconds n opens begins ends x → MayKeep known after firsts seconds n m opens begins ends options orderings spare x
+pub data MayKeep (chart : Chart) (known after : List ℕ) (opens begins ends : ℕ) (left : Left) (spare x : ℕ) : Type 0 where
+  needed : spare < held (ends_only chart.option_count chart.ordering_count chart.firsts chart.seconds) (residual_of left) (numbered x) → MayKeep chart known after opens begins ends left spare x
+  loose : LooseBy known after chart.firsts chart.seconds chart.option_count opens begins ends x → MayKeep chart known after opens begins ends left spare x
 
 -- A set with more in it: only slots below n that are open and of which P holds.
 pub record AddedTo (before after opens n : ℕ) (more : Bool) (P : ℕ → Type 0) : Type 0 where
@@ -21,15 +24,15 @@ pub record AddedTo (before after opens n : ℕ) (more : Bool) (P : ℕ → Type 
   pub none : more ≡ false → after ≡ before
 
 -- Items that may be kept are kept too; nothing else moves.
-pub record KeptMore (known after firsts seconds : List ℕ) (n m opens open_orderings : ℕ) (options orderings : List ℕ) (spare : ℕ) (g : Given) (k : More) : Type 0 where
+pub record KeptMore (chart : Chart) (h : Half) (after : List ℕ) (left : Left) (spare : ℕ) (g : Given) (k : More) : Type 0 where
   pub begins : ℕ
   pub ends : ℕ
-  pub begin : EndsOf open_orderings firsts m begins
-  pub end : EndsOf open_orderings seconds m ends
+  pub begin : EndsOf h.open_orderings chart.firsts chart.ordering_count begins
+  pub end : EndsOf h.open_orderings chart.seconds chart.ordering_count ends
   pub more_options : Bool
   pub more_orderings : Bool
-  pub option : AddedTo g.kept k.given.kept opens n more_options (MayKeep known after firsts seconds n m opens begins ends options orderings spare)
-  pub ordering : AddedTo g.kept_orderings k.given.kept_orderings open_orderings m more_orderings (λ u. MayKeep known after firsts seconds n m opens begins ends options orderings spare (32 + u))
+  pub option : AddedTo g.kept k.given.kept h.open_options chart.option_count more_options (MayKeep chart h.known after h.open_options begins ends left spare)
+  pub ordering : AddedTo g.kept_orderings k.given.kept_orderings h.open_orderings chart.ordering_count more_orderings (λ u. MayKeep chart h.known after h.open_options begins ends left spare (32 + u))
   pub dropped : k.given.dropped ≡ g.dropped
   pub dropped_orderings : k.given.dropped_orderings ≡ g.dropped_orderings
   pub more : k.more ≡ (more_options || more_orderings)

@@ -1,4 +1,3 @@
-pub mod Arrays
 pub mod Sets
 pub mod Keeping
 pub mod laws

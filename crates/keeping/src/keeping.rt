@@ -1,15 +1,16 @@
 // Open items that are kept beside the forced ones: without one of them less than what is wanted is left, or it is loose.
 ghost use Rattle.std.specs.Prelude.{◌+◌, ◌≤◌, ◌<◌, length, T};
 ghost use Rattle.rows.specs.Bits.{has};
-ghost use Rattle.graph.specs.Graph.{EndsAreSlots};
 ghost use Rattle.numbered.specs.Items.{Named};
 ghost use Rattle.links.specs.Links.{OnlyIf};
-ghost use Rattle.residual.specs.Taken.{LeftIn};
+ghost use Rattle.residual.specs.Left.{LeftFor};
 ghost use Rattle.keeping.specs.Keeping.{MayKeep, AddedTo, KeptMore};
 
+use chart::Chart;
 use given::Given;
+use half::Half;
 use loose::{ends_of, is_loose};
-use residual::held_by;
+use residual::{Left, held_by};
 
 // A set, and whether it is more than it was.
 #[derive(Clone, Copy)]
@@ -41,109 +42,79 @@ pub struct Open {
 }
 
 // Whether item x may be kept, if it is open.
+#[inline]
 fn may_keep(
-    known: &[u32],
-    after: &[u32],
-    first: &[u8],
-    second: &[u8],
-    n: usize,
-    m: usize,
+    chart: &Chart,
+    known: &[u32; 32],
+    after: &[u32; 32],
     o: Open,
-    options: &[u32],
-    orderings: &[u32],
+    left: &Left,
     x: u8,
 ) -> bool
-    requires { EndsAreSlots n m first.now second.now × (n ≤ length known.now) × (n ≤ length after.now) × LeftIn n m options.now orderings.now × Named n m x }
-    ensures { OnlyIf result (MayKeep known.now after.now first.now second.now n m o.options o.begins o.ends options.now orderings.now o.spare x) }
+    requires { LeftFor chart.now left.now × Named chart.now.option_count chart.now.ordering_count x }
+    ensures { OnlyIf result (MayKeep chart.now known.now after.now o.options o.begins o.ends left.now o.spare x) }
 {
-    let held = held_by(first, second, n, m, options, orderings, x);
+    let held = held_by(chart, left, x);
     if o.spare < held {
         return true;
     }
-    is_loose(
-        known, after, first, second, n, m, o.options, o.begins, o.ends, x,
-    )
+    is_loose(chart, known, after, o.options, o.begins, o.ends, x)
 }
 
 // Whether option i is open and may be kept.
 fn keeps_option(
-    known: &[u32],
-    after: &[u32],
-    first: &[u8],
-    second: &[u8],
-    n: usize,
-    m: usize,
+    chart: &Chart,
+    known: &[u32; 32],
+    after: &[u32; 32],
     o: Open,
-    options: &[u32],
-    orderings: &[u32],
+    left: &Left,
     i: usize,
 ) -> bool
-    requires { EndsAreSlots n m first.now second.now × (n ≤ length known.now) × (n ≤ length after.now) × LeftIn n m options.now orderings.now × (i < n) }
-    ensures { OnlyIf result (T (has o.options i) × MayKeep known.now after.now first.now second.now n m o.options o.begins o.ends options.now orderings.now o.spare i) }
+    requires { LeftFor chart.now left.now × (i < chart.now.option_count) }
+    ensures { OnlyIf result (T (has o.options i) × MayKeep chart.now known.now after.now o.options o.begins o.ends left.now o.spare i) }
 {
     let open = rows::get(o.options, i);
     if !open {
         return false;
     }
-    may_keep(
-        known, after, first, second, n, m, o, options, orderings, i as u8,
-    )
+    may_keep(chart, known, after, o, left, i as u8)
 }
 
 // Whether ordering u is open and may be kept.
 fn keeps_ordering(
-    known: &[u32],
-    after: &[u32],
-    first: &[u8],
-    second: &[u8],
-    n: usize,
-    m: usize,
+    chart: &Chart,
+    known: &[u32; 32],
+    after: &[u32; 32],
     o: Open,
-    options: &[u32],
-    orderings: &[u32],
+    left: &Left,
     u: usize,
 ) -> bool
-    requires { EndsAreSlots n m first.now second.now × (n ≤ length known.now) × (n ≤ length after.now) × LeftIn n m options.now orderings.now × (u < m) }
-    ensures { OnlyIf result (T (has o.orderings u) × MayKeep known.now after.now first.now second.now n m o.options o.begins o.ends options.now orderings.now o.spare (32 + u)) }
+    requires { LeftFor chart.now left.now × (u < chart.now.ordering_count) }
+    ensures { OnlyIf result (T (has o.orderings u) × MayKeep chart.now known.now after.now o.options o.begins o.ends left.now o.spare (32 + u)) }
 {
     let open = rows::get64(o.orderings, u);
     if !open {
         return false;
     }
-    may_keep(
-        known,
-        after,
-        first,
-        second,
-        n,
-        m,
-        o,
-        options,
-        orderings,
-        (32 + u) as u8,
-    )
+    may_keep(chart, known, after, o, left, (32 + u) as u8)
 }
 
 fn keep_options(
+    chart: &Chart,
     g: Given,
-    known: &[u32],
-    after: &[u32],
-    first: &[u8],
-    second: &[u8],
-    n: usize,
-    m: usize,
+    known: &[u32; 32],
+    after: &[u32; 32],
     o: Open,
-    options: &[u32],
-    orderings: &[u32],
+    left: &Left,
 ) -> Options
-    requires { EndsAreSlots n m first.now second.now × (n ≤ length known.now) × (n ≤ length after.now) × LeftIn n m options.now orderings.now }
-    ensures { AddedTo g.kept result.set o.options n result.more (MayKeep known.now after.now first.now second.now n m o.options o.begins o.ends options.now orderings.now o.spare) }
+    requires { LeftFor chart.now left.now }
+    ensures { AddedTo g.kept result.set o.options chart.now.option_count result.more (MayKeep chart.now known.now after.now o.options o.begins o.ends left.now o.spare) }
 {
     let mut set = g.kept;
     let mut more = false;
     let mut i: usize = 0;
-    while i < n {
-        let yes = keeps_option(known, after, first, second, n, m, o, options, orderings, i);
+    while i < chart.option_count {
+        let yes = keeps_option(chart, known, after, o, left, i);
         set = rows::put_if(set, i, yes);
         more = rows::either(more, yes);
         i += 1;
@@ -155,25 +126,21 @@ fn keep_options(
 }
 
 fn keep_orderings(
+    chart: &Chart,
     g: Given,
-    known: &[u32],
-    after: &[u32],
-    first: &[u8],
-    second: &[u8],
-    n: usize,
-    m: usize,
+    known: &[u32; 32],
+    after: &[u32; 32],
     o: Open,
-    options: &[u32],
-    orderings: &[u32],
+    left: &Left,
 ) -> Orderings
-    requires { EndsAreSlots n m first.now second.now × (n ≤ length known.now) × (n ≤ length after.now) × LeftIn n m options.now orderings.now }
-    ensures { AddedTo g.kept_orderings result.set o.orderings m result.more (λ u. MayKeep known.now after.now first.now second.now n m o.options o.begins o.ends options.now orderings.now o.spare (32 + u)) }
+    requires { LeftFor chart.now left.now }
+    ensures { AddedTo g.kept_orderings result.set o.orderings chart.now.ordering_count result.more (λ u. MayKeep chart.now known.now after.now o.options o.begins o.ends left.now o.spare (32 + u)) }
 {
     let mut set = g.kept_orderings;
     let mut more = false;
     let mut u: usize = 0;
-    while u < m {
-        let yes = keeps_ordering(known, after, first, second, n, m, o, options, orderings, u);
+    while u < chart.ordering_count {
+        let yes = keeps_ordering(chart, known, after, o, left, u);
         set = rows::put64_if(set, u, yes);
         more = rows::either(more, yes);
         u += 1;
@@ -185,33 +152,37 @@ fn keep_orderings(
 }
 
 pub fn keep_more(
+    chart: &Chart,
     g: Given,
-    known: &[u32],
-    after: &[u32],
-    first: &[u8],
-    second: &[u8],
-    n: usize,
-    m: usize,
-    opens: u32,
-    open_orderings: u64,
-    options: &[u32],
-    orderings: &[u32],
+    h: &Half,
+    after: &[u32; 32],
+    left: &Left,
     spare: u32,
 ) -> More
-    requires { EndsAreSlots n m first.now second.now × (n ≤ length known.now) × (n ≤ length after.now) × LeftIn n m options.now orderings.now }
-    ensures { KeptMore known.now after.now first.now second.now n m opens open_orderings options.now orderings.now spare g result }
+    requires { LeftFor chart.now left.now }
+    ensures { KeptMore chart.now h.now after.now left.now spare g result }
 {
-    let begins = ends_of(open_orderings, first, n, m);
-    let ends = ends_of(open_orderings, second, n, m);
+    let begins = ends_of(
+        h.open_orderings,
+        &chart.firsts,
+        chart.option_count,
+        chart.ordering_count,
+    );
+    let ends = ends_of(
+        h.open_orderings,
+        &chart.seconds,
+        chart.option_count,
+        chart.ordering_count,
+    );
     let o = Open {
-        options: opens,
-        orderings: open_orderings,
+        options: h.open_options,
+        orderings: h.open_orderings,
         begins: begins,
         ends: ends,
         spare: spare,
     };
-    let a = keep_options(g, known, after, first, second, n, m, o, options, orderings);
-    let b = keep_orderings(g, known, after, first, second, n, m, o, options, orderings);
+    let a = keep_options(chart, g, &h.known, after, o, left);
+    let b = keep_orderings(chart, g, &h.known, after, o, left);
     let given = Given {
         kept: a.set,
         dropped: g.dropped,

@@ -1,5 +1,4 @@
 // Items kept or dropped in a half-decided sheet held as sets: one item more decided, and the open items that are kept beside the forced ones.
-// For the crates above: counts and arrays handed in must be those of a record.
 #![tactic(auto)]
 
 mod items;

@@ -1,5 +1,5 @@
 -- What is worked out about a half-decided sheet, in the words of the rules.
-use Rattle.std.specs.Prelude.{◌≡◌, true, false, cond, List, ℕ, replicate}
+use Rattle.std.specs.Prelude.{◌≡◌, true, false, cond, replicate}
 use Rattle.rules.specs.Subscription.{Subscription}
 use Rattle.rules.specs.Decisions.{DecidedBySlot}
 use Rattle.rules.specs.KnownBefore.{ordering_kept, option_kept}
@@ -8,9 +8,10 @@ use Rattle.rules.specs.Limits.{whole_lower, whole_upper}
 use Rattle.given.specs.Given.{undecided, Gives, choice_of}
 use Rattle.graph.specs.Shown.{counted, Shows}
 use Rattle.rules.specs.Results.{option_limit, ordering_limit}
-use Rattle.half.specs.Weights.{Weighs}
+use Rattle.chart.specs.Arrays.{Weighs}
 use Rattle.cells.specs.Cells.{no_limit, shown_limit}
 use Rattle.given.specs.Filled.{filled}
+use Rattle.chart.specs.declared.chart.Chart.{Chart}
 use Rattle.given.specs.declared.sets.Given.{Given}
 use Rattle.limits.specs.declared.whole.Limited.{Limited}
 
@@ -41,7 +42,7 @@ without_contradiction v b = record {
 unfoldable pub limited_as : Subscription → DecidedBySlot → Limited
 limited_as v b = cond (contradiction v b) contradictory (without_contradiction v b)
 
--- Whatever subscription the arrays show, and whatever decisions give these sets.
-abbrev pub LimitedBy : (n m : ℕ) (firsts seconds ws bs rows : List ℕ) → Given → Limited → Type 0
-LimitedBy n m firsts seconds ws bs rows g r =
-    (v : Subscription) (b : DecidedBySlot) → Shows v n m firsts seconds rows → Weighs v n m ws bs → Gives b n m g → r ≡ limited_as (counted n m v) b
+-- Whatever subscription the chart shows, and whatever decisions give these sets.
+abbrev pub LimitedBy : Chart → Given → Limited → Type 0
+LimitedBy chart g r = let n = chart.option_count in let m = chart.ordering_count in
+    (v : Subscription) (b : DecidedBySlot) → Shows v n m chart.firsts chart.seconds chart.rows → Weighs v n m chart.weights chart.ordering_weights → Gives b n m g → r ≡ limited_as (counted n m v) b

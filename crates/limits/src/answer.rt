@@ -57,19 +57,9 @@ pub fn limits(sheet: Sheet, decisions: Decisions) -> LimitsAnswer
     if given::has_decision_past(decisions, n, m) {
         return refused(Refusal::WrongDecisions);
     }
-    let v = subscription::by_slot(sheet);
+    let chart = subscription::chart_of(&sheet);
     let g = given::given_sets(decisions, n, m);
-    let t = v.rows;
-    let l = limits_of(
-        g,
-        t,
-        &v.firsts,
-        &v.seconds,
-        &sheet.weights,
-        &sheet.ordering_weights,
-        n,
-        m,
-    );
+    let l = limits_of(&chart, g);
     let a = Answer::Accepted;
     LimitsAnswer {
         answer: a,

@@ -1,13 +1,12 @@
 // The whole answer about a half-decided sheet.
 ghost use Rattle.std.specs.Prelude.{◌≡◌};
-ghost use Rattle.graph.specs.Graph.{EndsAreSlots};
-ghost use Rattle.half.specs.Weights.{HasWeights};
 ghost use Rattle.half.specs.Half.{OpenFits};
 ghost use Rattle.cells.specs.Cells.{no_limit, option_limit_in, ordering_limit_in};
 ghost use Rattle.given.specs.Filled.{filled};
 ghost use Rattle.limits.specs.Limited.{contradictory, LimitedBy};
 
 use cells::{Limit, no_limit, option_limit, ordering_limit};
+use chart::Chart;
 use given::Given;
 use half::Half;
 use sheet::{Choice, Decision, Decisions};
@@ -23,48 +22,30 @@ pub struct Limited {
     pub orderings: [Limit; 64],
 }
 
-pub fn option_limits(
-    h: Half,
-    first: &[u8],
-    second: &[u8],
-    weights: &[u16],
-    ordering_weights: &[u16],
-    n: usize,
-    m: usize,
-) -> [Limit; 32]
-    requires arrays_fit { EndsAreSlots n m first.now second.now × HasWeights n m weights.now ordering_weights.now }
-    requires open_fits { OpenFits h n m weights.now ordering_weights.now }
-    ensures { result ≡ filled 32 n (option_limit_in h n m first.now second.now weights.now ordering_weights.now) no_limit }
+pub fn option_limits(chart: &Chart, h: &Half) -> [Limit; 32]
+    requires { OpenFits chart.now h.now }
+    ensures { result ≡ filled 32 chart.now.option_count (option_limit_in chart.now h.now) no_limit }
 {
     let z = no_limit();
     let mut l = [z; 32];
     let mut i: usize = 0;
-    while i < n {
-        let x = option_limit(h, i, first, second, weights, ordering_weights, n, m);
+    while i < chart.option_count {
+        let x = option_limit(chart, h, i);
         l[i] = x;
         i += 1;
     }
     l
 }
 
-pub fn ordering_limits(
-    h: Half,
-    first: &[u8],
-    second: &[u8],
-    weights: &[u16],
-    ordering_weights: &[u16],
-    n: usize,
-    m: usize,
-) -> [Limit; 64]
-    requires arrays_fit { EndsAreSlots n m first.now second.now × HasWeights n m weights.now ordering_weights.now }
-    requires open_fits { OpenFits h n m weights.now ordering_weights.now }
-    ensures { result ≡ filled 64 m (ordering_limit_in h n m first.now second.now weights.now ordering_weights.now) no_limit }
+pub fn ordering_limits(chart: &Chart, h: &Half) -> [Limit; 64]
+    requires { OpenFits chart.now h.now }
+    ensures { result ≡ filled 64 chart.now.ordering_count (ordering_limit_in chart.now h.now) no_limit }
 {
     let z = no_limit();
     let mut l = [z; 64];
     let mut u: usize = 0;
-    while u < m {
-        let x = ordering_limit(h, u, first, second, weights, ordering_weights, n, m);
+    while u < chart.ordering_count {
+        let x = ordering_limit(chart, h, u);
         l[u] = x;
         u += 1;
     }
@@ -92,33 +73,25 @@ pub fn contradictory() -> Limited
 }
 
 // Forced decisions and limits, from what is given.
-pub fn limits_of<'a>(
-    g: Given,
-    t: [u32; 32],
-    first: &'a [u8],
-    second: &'a [u8],
-    weights: &'a [u16],
-    ordering_weights: &'a [u16],
-    n: usize,
-    m: usize,
-) -> Limited
-    requires { EndsAreSlots n m first.now second.now × HasWeights n m weights.now ordering_weights.now }
-    ensures { LimitedBy n m first.now second.now weights.now ordering_weights.now t g result }
+pub fn limits_of(chart: &Chart, g: Given) -> Limited
+    ensures { LimitedBy chart.now g result }
 {
-    let f = forced::force(g, t, first, second, n, m);
+    let n = chart.option_count;
+    let m = chart.ordering_count;
+    let f = forced::force(chart, g);
     let clash = f.contradiction;
     if clash {
         return contradictory();
     }
-    let h = half::half_decided(f, weights, ordering_weights, n, m);
+    let h = half::half_decided(chart, &f);
     let o = given::options_decided(f.kept, f.dropped, n);
     let u = given::orderings_decided(f.kept_orderings, f.dropped_orderings, m);
     let e = Decisions {
         options: o,
         orderings: u,
     };
-    let x = option_limits(h, first, second, weights, ordering_weights, n, m);
-    let y = ordering_limits(h, first, second, weights, ordering_weights, n, m);
+    let x = option_limits(chart, &h);
+    let y = ordering_limits(chart, &h);
     let low = h.lower;
     let high = h.upper;
     Limited {

@@ -2,11 +2,11 @@
 ghost use Rattle.std.specs.Prelude.{◌≤◌, ◌<◌, length, T};
 ghost use Rattle.rules.specs.laws.search.Items.{closes};
 ghost use Rattle.rows.specs.Sets.{cell};
-ghost use Rattle.graph.specs.Graph.{EndsAreSlots};
 ghost use Rattle.numbered.specs.Items.{ends_only};
 ghost use Rattle.links.specs.Links.{members, AllNamed, OnlyIf};
 
 use crate::links::is_linked;
+use chart::Chart;
 
 // Whether the first len numbers name items of the sheet.
 pub fn all_named(chain: &[u8], len: usize, n: usize, m: usize) -> bool
@@ -31,23 +31,15 @@ pub fn all_named(chain: &[u8], len: usize, n: usize, m: usize) -> bool
 }
 
 // Whether the first len items are each linked to the next, and the last to the first.
-pub fn closed(
-    known: &[u32],
-    first: &[u8],
-    second: &[u8],
-    n: usize,
-    m: usize,
-    chain: &[u8],
-    len: usize,
-) -> bool
-    requires { EndsAreSlots n m first.now second.now × (n ≤ length known.now) × AllNamed chain.now len n m × (len ≤ length chain.now) × (0 < len) }
-    ensures { OnlyIf result (T (closes (ends_only n m first.now second.now) (cell known.now) (members chain.now len))) }
+pub fn closed(chart: &Chart, known: &[u32], chain: &[u8], len: usize) -> bool
+    requires { (chart.now.option_count ≤ length known.now) × AllNamed chain.now len chart.now.option_count chart.now.ordering_count × (len ≤ length chain.now) × (0 < len) }
+    ensures { OnlyIf result (T (closes (ends_only chart.now.option_count chart.now.ordering_count chart.now.firsts chart.now.seconds) (cell known.now) (members chain.now len))) }
 {
     let mut p: usize = 0;
     while p < len - 1 {
         let x = chain[p];
         let y = chain[p + 1];
-        let ok = is_linked(known, first, second, n, m, x, y);
+        let ok = is_linked(chart, known, x, y);
         if !ok {
             return false;
         }
@@ -55,5 +47,5 @@ pub fn closed(
     }
     let last = chain[p];
     let start = chain[0];
-    is_linked(known, first, second, n, m, last, start)
+    is_linked(chart, known, last, start)
 }

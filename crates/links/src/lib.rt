@@ -1,5 +1,5 @@
 // Whether numbers that were found name items that are linked, each to the next and the last to the first: a chain that cannot be kept whole.
-// For the crates above: arrays and rows handed in must be those of a record; a chain may hold any numbers.
+// For the crates above: a chain may hold any numbers.
 #![tactic(auto)]
 
 mod chain;

@@ -1,8 +1,9 @@
 // When one item is linked to another, by their numbers: option i is i, ordering u is 32 + u.
 ghost use Rattle.std.specs.Prelude.{◌≡◌, ◌≤◌, length};
-ghost use Rattle.graph.specs.Graph.{EndsAreSlots};
 ghost use Rattle.numbered.specs.Items.{Named};
 ghost use Rattle.links.specs.Links.{AreSlots, OptionAt, linked_in};
+
+use chart::Chart;
 
 // The option at which item x begins or ends: an option itself, an ordering's own in `ends`.
 pub fn option_at(ends: &[u8], n: usize, m: usize, x: u8) -> u8
@@ -13,20 +14,12 @@ pub fn option_at(ends: &[u8], n: usize, m: usize, x: u8) -> u8
 }
 
 // Item x is linked to item y: where x ends is known before where y begins, or they are two orderings that meet.
-pub fn is_linked(
-    known: &[u32],
-    first: &[u8],
-    second: &[u8],
-    n: usize,
-    m: usize,
-    x: u8,
-    y: u8,
-) -> bool
-    requires { EndsAreSlots n m first.now second.now × (n ≤ length known.now) × Named n m x × Named n m y }
-    ensures { result ≡ linked_in n m known.now first.now second.now x y }
+pub fn is_linked(chart: &Chart, known: &[u32], x: u8, y: u8) -> bool
+    requires { (chart.now.option_count ≤ length known.now) × Named chart.now.option_count chart.now.ordering_count x × Named chart.now.option_count chart.now.ordering_count y }
+    ensures { result ≡ linked_in chart.now.option_count chart.now.ordering_count known.now chart.now.firsts chart.now.seconds x y }
 {
-    let o = option_at(second, n, m, x);
-    let i = option_at(first, n, m, y);
+    let o = option_at(&chart.seconds, chart.option_count, chart.ordering_count, x);
+    let i = option_at(&chart.firsts, chart.option_count, chart.ordering_count, y);
     let row = known[o as usize];
     if rows::get(row, i as usize) {
         return true;

@@ -1,5 +1,5 @@
 // Loose items: an open item with no open item after it, or none before it, may be kept at once.
-// For the crates above: arrays, rows and sets handed in must be those of a half-decided sheet.
+// For the crates above: rows and sets handed in must be those of a half-decided sheet.
 #![tactic(auto)]
 
 mod masks;

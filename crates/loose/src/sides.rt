@@ -1,9 +1,10 @@
 // Whether nothing open lies on one side of an item.
 ghost use Rattle.std.specs.Prelude.{◌≤◌, ◌<◌, length};
-ghost use Rattle.graph.specs.Graph.{EndsAreSlots};
 ghost use Rattle.numbered.specs.Items.{Named};
 ghost use Rattle.links.specs.Links.{OnlyIf};
 ghost use Rattle.loose.specs.Loose.{ClosedEnds, FreeSide, LooseBy};
+
+use chart::Chart;
 
 // By the row of what lies on that side of option o, where item x ends: no open option in it, no open ordering that sets out from it and,
 // if x is an ordering itself, none from o. `ends` are the options from which open orderings set out on that side.
@@ -37,22 +38,19 @@ pub fn has_closed_ends(opens: u32, a: u8, b: u8, x: u8) -> bool
 
 // Item x is loose, if it is open. `after` is `known` transposed; `begins` and `ends` are where open orderings begin and end.
 pub fn is_loose(
+    chart: &Chart,
     known: &[u32],
     after: &[u32],
-    first: &[u8],
-    second: &[u8],
-    n: usize,
-    m: usize,
     opens: u32,
     begins: u32,
     ends: u32,
     x: u8,
 ) -> bool
-    requires { EndsAreSlots n m first.now second.now × (n ≤ length known.now) × (n ≤ length after.now) × Named n m x }
-    ensures { OnlyIf result (LooseBy known.now after.now first.now second.now n opens begins ends x) }
+    requires { (chart.now.option_count ≤ length known.now) × (chart.now.option_count ≤ length after.now) × Named chart.now.option_count chart.now.ordering_count x }
+    ensures { OnlyIf result (LooseBy known.now after.now chart.now.firsts chart.now.seconds chart.now.option_count opens begins ends x) }
 {
-    let a = links::option_at(first, n, m, x);
-    let b = links::option_at(second, n, m, x);
+    let a = links::option_at(&chart.firsts, chart.option_count, chart.ordering_count, x);
+    let b = links::option_at(&chart.seconds, chart.option_count, chart.ordering_count, x);
     let alone = has_closed_ends(opens, a, b, x);
     if !alone {
         return false;

@@ -1,5 +1,4 @@
 // Which open item the search takes up next: hints, on which no answer rests, except that what is picked is open.
-// For the crates above: the arrays lent must have the sheet's sizes.
 #![tactic(auto)]
 
 mod greatest;

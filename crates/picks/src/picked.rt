@@ -4,29 +4,22 @@ ghost use Rattle.picks.specs.Picked.{Picked};
 
 use crate::greatest::greatest;
 use crate::score::{counted, option_scores, ordering_scores};
+use chart::Chart;
 
 // For the search of the value: open options first, by what hangs on them, then open orderings.
-pub fn pick(
-    known: &[u32],
-    after: &[u32],
-    first: &[u8],
-    second: &[u8],
-    open_options: u32,
-    open_orderings: u64,
-    n: usize,
-    m: usize,
-) -> usize
-    requires { (n ≤ 32) × (m ≤ 64) × (32 ≤ length known.now) × (32 ≤ length after.now) × (m ≤ length first.now) × (m ≤ length second.now) }
-    ensures { Picked open_options open_orderings n m result }
+pub fn pick(chart: &Chart, back: &[u32; 32], open_options: u32, open_orderings: u64) -> usize
+    ensures { Picked open_options open_orderings chart.now.option_count chart.now.ordering_count result }
 {
-    let from = counted(first, open_orderings, m);
-    let to = counted(second, open_orderings, m);
-    let s = option_scores(known, after, open_options, &from, &to);
+    let n = chart.option_count;
+    let m = chart.ordering_count;
+    let from = counted(&chart.firsts, open_orderings, m);
+    let to = counted(&chart.seconds, open_orderings, m);
+    let s = option_scores(&chart.rows, back, open_options, &from, &to);
     let i = greatest(&s, open_options as u64, n);
     if i < n {
         return i;
     }
-    let t = ordering_scores(known, after, first, second, open_orderings, m, &from, &to);
+    let t = ordering_scores(chart, back, open_orderings, &from, &to);
     let u = greatest(&t, open_orderings, m);
     if u < m {
         return 32 + u;
@@ -36,16 +29,16 @@ pub fn pick(
 
 // For the dive: the open item that holds most, options before orderings where they hold the same.
 pub fn heaviest(
-    held: &[u32],
-    left_orderings: &[u32],
+    chart: &Chart,
+    held: &[u32; 32],
+    left_orderings: &[u32; 64],
     open_options: u32,
     open_orderings: u64,
-    n: usize,
-    m: usize,
 ) -> usize
-    requires { (n ≤ 32) × (m ≤ 64) × (n ≤ length held.now) × (m ≤ length left_orderings.now) }
-    ensures { Picked open_options open_orderings n m result }
+    ensures { Picked open_options open_orderings chart.now.option_count chart.now.ordering_count result }
 {
+    let n = chart.option_count;
+    let m = chart.ordering_count;
     let i = greatest(held, open_options as u64, n);
     let u = greatest(left_orderings, open_orderings, m);
     if u == m {

@@ -2,6 +2,7 @@
 ghost use Rattle.std.specs.Prelude.{◌<◌, ◌≤◌, length};
 
 use chains::{end_at, lowest, without_lowest};
+use chart::Chart;
 use std::num::wrapping_add_u32;
 
 // How many open orderings begin, or end, at each option.
@@ -92,25 +93,19 @@ fn ordering_score(
 }
 
 pub fn ordering_scores(
-    known: &[u32],
-    after: &[u32],
-    first: &[u8],
-    second: &[u8],
+    chart: &Chart,
+    after: &[u32; 32],
     open_orderings: u64,
-    m: usize,
     starts: &[u32; 32],
     stops: &[u32; 32],
-) -> [u32; 64]
-    requires in_bounds { (32 ≤ length known.now) × (32 ≤ length after.now) }
-    requires m_bound { (m ≤ 64) × (m ≤ length first.now) × (m ≤ length second.now) }
-{
+) -> [u32; 64] {
     let mut t: [u32; 64] = [0; 64];
     let mut u: usize = 0;
-    while u < m {
+    while u < chart.ordering_count {
         if rows::get64(open_orderings, u) {
-            let a = end_at(first, u);
-            let b = end_at(second, u);
-            let s = ordering_score(known[b], after[a], starts, stops, a, b);
+            let a = end_at(&chart.firsts, u);
+            let b = end_at(&chart.seconds, u);
+            let s = ordering_score(chart.rows[b], after[a], starts, stops, a, b);
             t[u] = s;
         }
         u += 1;

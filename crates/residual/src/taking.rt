@@ -1,8 +1,11 @@
 // What an item's consequences hold of what is left, and taking from it.
 ghost use Rattle.std.specs.Prelude.{◌≡◌, ◌||◌, ◌≤◌, ◌<◌, length, eqb};
-ghost use Rattle.graph.specs.Graph.{EndsAreSlots};
 ghost use Rattle.numbered.specs.Items.{Named};
-ghost use Rattle.residual.specs.Taken.{LeftIn, TookAt, TookTo, Took, held_in};
+ghost use Rattle.residual.specs.Taken.{TookAt, TookTo, Took};
+ghost use Rattle.residual.specs.Left.{LeftFor, held_of};
+
+use crate::starting::Left;
+use chart::Chart;
 
 // Whether an ordering from a to b touches option x.
 pub fn touches(a: u8, b: u8, x: u8) -> bool
@@ -12,27 +15,19 @@ pub fn touches(a: u8, b: u8, x: u8) -> bool
 }
 
 // What item x's consequences hold together: an ordering itself, an option and its orderings.
-pub fn held_by(
-    first: &[u8],
-    second: &[u8],
-    n: usize,
-    m: usize,
-    options: &[u32],
-    orderings: &[u32],
-    x: u8,
-) -> u32
-    requires { EndsAreSlots n m first.now second.now × Named n m x × LeftIn n m options.now orderings.now }
-    ensures { (result ≡ held_in n m first.now second.now options.now orderings.now x) × (result ≤ 4259775) }
+pub fn held_by(chart: &Chart, left: &Left, x: u8) -> u32
+    requires { Named chart.now.option_count chart.now.ordering_count x × LeftFor chart.now left.now }
+    ensures { (result ≡ held_of chart.now left.now x) × (result ≤ 4259775) }
 {
     if x >= 32 {
-        return orderings[(x - 32) as usize];
+        return left.orderings[(x - 32) as usize];
     }
-    let mut sum: u32 = options[x as usize];
+    let mut sum: u32 = left.options[x as usize];
     let mut w: usize = 0;
-    while w < m {
-        let yes = touches(first[w], second[w], x);
+    while w < chart.ordering_count {
+        let yes = touches(chart.firsts[w], chart.seconds[w], x);
         if yes {
-            sum += orderings[w];
+            sum += left.orderings[w];
         }
         w += 1;
     }
@@ -79,23 +74,21 @@ pub fn take_orderings(
 }
 
 // So much is taken from item x's consequences: an option's own weight first, then its orderings.
-pub fn take(
-    first: &[u8],
-    second: &[u8],
-    n: usize,
-    m: usize,
-    options: &mut [u32],
-    orderings: &mut [u32],
-    x: u8,
-    need: u32,
-)
-    requires { EndsAreSlots n m first.now second.now × Named n m x × LeftIn n m options.old orderings.old × (need ≤ held_in n m first.now second.now options.old orderings.old x) }
-    ensures { Took first.now second.now n m x need options.old orderings.old options.new orderings.new }
+pub fn take(chart: &Chart, left: &mut Left, x: u8, need: u32)
+    requires { Named chart.now.option_count chart.now.ordering_count x × LeftFor chart.now left.old × (need ≤ held_of chart.now left.old x) }
+    ensures { Took chart.now.firsts chart.now.seconds chart.now.option_count chart.now.ordering_count x need left.old.options left.old.orderings left.new.options left.new.orderings }
 {
     if x < 32 {
-        let rest = take_at(options, x as usize, need);
-        take_orderings(first, second, m, orderings, x, rest);
+        let rest = take_at(&mut left.options, x as usize, need);
+        take_orderings(
+            &chart.firsts,
+            &chart.seconds,
+            chart.ordering_count,
+            &mut left.orderings,
+            x,
+            rest,
+        );
     } else {
-        take_at(orderings, (x - 32) as usize, need);
+        take_at(&mut left.orderings, (x - 32) as usize, need);
     }
 }

@@ -1,5 +1,6 @@
 -- What the search returns.
-use Rattle.std.specs.Prelude.{◌≡◌, Bool, true, false, List, ℕ, ◌+◌, ◌≤◌, ◌<◌, get_or}
+use Rattle.std.specs.Prelude.{◌≡◌, Bool, true, false, ℕ, ◌+◌, ◌≤◌, ◌<◌, get_or}
+use Rattle.chart.specs.declared.chart.Chart.{Chart}
 use Rattle.rules.specs.Lines.{Lines}
 use Rattle.rules.specs.Decisions.{Decision, Kept, Dropped}
 use Rattle.rules.specs.Best as R
@@ -15,7 +16,7 @@ use Rattle.sheet.specs.declared.answer.Refusal.{Refusal}
 use Rattle.sheet.specs.declared.answer.Refusal.TheVariants.{NotRecorded, ToleranceTooLarge}
 use Rattle.sheet.specs.declared.answer.Answer.TheVariants.{Accepted, Refused}
 use Rattle.sheet.specs.declared.sheet.Sheet.{Sheet}
-use Rattle.keeping.specs.Arrays.{ShowsSheet}
+use Rattle.chart.specs.Chart.{ShowsSheet}
 use Rattle.keeping.specs.Sets.{chosen_list}
 use Rattle.search.specs.declared.found.Found.{Found}
 use Rattle.search.specs.declared.sheet_search.Searched.{Searched}
@@ -66,6 +67,6 @@ accepted f n m = record {
 abbrev pub answer_in : (n m : ℕ) → Found → R.Answer
 answer_in n m r = record { relaxation = chosen_list n m r.kept r.kept_orderings; value = r.value; ceiling = r.ceiling }
 
--- Whatever sheet the arrays show.
-abbrev pub FoundBy : (n m : ℕ) (firsts seconds rows ws bs : List ℕ) (tolerance : ℕ) → Found → Type 0
-FoundBy n m firsts seconds rows ws bs tolerance r = (s : Lines) → ShowsSheet s n m firsts seconds rows ws bs → AnswerTo s tolerance (answer_in n m r)
+-- Whatever sheet the chart shows.
+abbrev pub FoundBy : (chart : Chart) (tolerance : ℕ) → Found → Type 0
+FoundBy chart tolerance r = (s : Lines) → ShowsSheet s chart → AnswerTo s tolerance (answer_in chart.option_count chart.ordering_count r)

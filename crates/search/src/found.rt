@@ -1,10 +1,10 @@
 // What a whole search comes to.
 ghost use Rattle.std.specs.Prelude.{◌≡◌, ◌≤◌, min};
 ghost use Rattle.sheet.specs.Limits.{largest_value};
-ghost use Rattle.keeping.specs.Arrays.{Arrays};
 ghost use Rattle.search.specs.Search.{FoundBy};
 
 use branch::branch;
+use chart::Chart;
 use keeping::nothing_given;
 use so_far::{nothing_found, worth};
 use value::bounds_of;
@@ -25,35 +25,14 @@ pub fn least(a: u32, b: u32) -> u32
 }
 
 // The search from nothing decided. The ceiling is the lesser of the one over all and the value with the tolerance.
-pub fn found_in<'a>(
-    tolerance: u32,
-    t: [u32; 32],
-    first: &'a [u8],
-    second: &'a [u8],
-    weights: &'a [u16],
-    ordering_weights: &'a [u16],
-    n: usize,
-    m: usize,
-) -> Found
-    requires { Arrays n m first.now second.now t weights.now ordering_weights.now × (tolerance ≤ largest_value) }
-    ensures { FoundBy n m first.now second.now t weights.now ordering_weights.now tolerance result }
+pub fn found_in(chart: &Chart, tolerance: u32) -> Found
+    requires { tolerance ≤ largest_value }
+    ensures { FoundBy chart.now tolerance result }
 {
-    let bounds = bounds_of(tolerance, t, first, second, weights, ordering_weights, n, m);
+    let bounds = bounds_of(chart, tolerance);
     let g = nothing_given();
     let a = nothing_found(bounds.floor);
-    let b = branch(
-        g,
-        a,
-        tolerance,
-        bounds.ceiling,
-        t,
-        first,
-        second,
-        weights,
-        ordering_weights,
-        n,
-        m,
-    );
+    let b = branch(chart, g, a, tolerance, bounds.ceiling);
     let value = worth(b);
     let ceiling = least(bounds.ceiling, value + tolerance);
     Found {

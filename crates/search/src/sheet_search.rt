@@ -60,21 +60,9 @@ pub fn answer_of(s: Sheet, tolerance: u32) -> Searched
     requires { (is_recorded s ≡ true) × (tolerance ≤ largest_value) }
     ensures { Answers s tolerance result }
 {
-    let n = s.option_count;
-    let m = s.ordering_count;
-    let b = subscription::by_slot(s);
-    let rows = b.rows;
-    let f = found_in(
-        tolerance,
-        rows,
-        &b.firsts,
-        &b.seconds,
-        &s.weights,
-        &s.ordering_weights,
-        n,
-        m,
-    );
-    accepted(f, n, m)
+    let chart = subscription::chart_of(&s);
+    let f = found_in(&chart, tolerance);
+    accepted(f, s.option_count, s.ordering_count)
 }
 
 // A consistent relaxation of the sheet within the tolerance of the best, its value and a ceiling; at tolerance 0 the best by the tie rule.

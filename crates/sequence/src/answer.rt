@@ -40,10 +40,9 @@ pub fn sequence(sheet: Sheet, decisions: Decisions) -> Sequenced
     if given::has_open_item(decisions, n, m) {
         return refused(Refusal::WrongDecisions);
     }
-    let v = subscription::by_slot(sheet);
+    let chart = subscription::chart_of(&sheet);
     let g = given::given_sets(decisions, n, m);
-    let t = v.rows;
-    let p = sequence_of(g, t, &v.firsts, &v.seconds, &sheet.numbers, n, m);
+    let p = sequence_of(&chart, &sheet.numbers, g);
     let consistent = p.consistent;
     if !consistent {
         return refused(Refusal::NotConsistent);

@@ -1,9 +1,9 @@
 // The sequence of a full decision, from what is given.
-ghost use Rattle.std.specs.Prelude.{◌≡◌, ◌≤◌, length};
-ghost use Rattle.graph.specs.Graph.{EndsAreSlots};
+ghost use Rattle.std.specs.Prelude.{◌≡◌};
 ghost use Rattle.sequence.specs.Sequenced.{not_consistent, PlacedBy};
 
 use crate::edges::{between_kept, has_cycle, lacks_option};
+use chart::Chart;
 use given::Given;
 use placing::place_all;
 use sheet::Number;
@@ -25,21 +25,16 @@ pub fn no_sequence() -> Placed
 }
 
 // The sequence, if the decision is a consistent relaxation.
-pub fn sequence_of<'a>(
-    g: Given,
-    t: [u32; 32],
-    first: &'a [u8],
-    second: &'a [u8],
-    numbers: &'a [u8],
-    n: usize,
-    m: usize,
-) -> Placed
-    requires { EndsAreSlots n m first.now second.now × (n ≤ length numbers.now) }
-    ensures { PlacedBy n m first.now second.now numbers.now t g result }
+pub fn sequence_of(chart: &Chart, numbers: &[u8; 32], g: Given) -> Placed
+    ensures { PlacedBy chart.now numbers.now g result }
 {
+    let n = chart.option_count;
+    let m = chart.ordering_count;
+    let first = &chart.firsts;
+    let second = &chart.seconds;
     let kept = g.kept;
     let kept_orderings = g.kept_orderings;
-    let between = between_kept(t, kept, n);
+    let between = between_kept(chart.rows, kept, n);
     let edges = graph::put_orderings(between, kept_orderings, first, second, n, m);
     let paths = graph::join_through_all(edges, kept, n);
     if lacks_option(kept, kept_orderings, first, second, n, m) {

@@ -1,5 +1,5 @@
 // A half-decided sheet in sets, settled: all that follows is decided, towards a value that is wanted.
-// For the crates above: counts and arrays handed in must be those of a record.
+// For the crates above: the sets handed in must be apart.
 #![tactic(auto)]
 
 mod settling;

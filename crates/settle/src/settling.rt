@@ -1,20 +1,17 @@
 // Settling a half-decided sheet towards a value that is wanted.
-ghost use Rattle.std.specs.Prelude.{◌≡◌, true, false, ◌+◌, ◌≤◌, length};
+ghost use Rattle.std.specs.Prelude.{◌≡◌, true, false, ◌+◌, ◌≤◌};
 ghost use Rattle.sheet.specs.Limits.{largest_value};
-ghost use Rattle.graph.specs.Graph.{EndsAreSlots};
-ghost use Rattle.half.specs.Weights.{HasWeights, largest_sum};
-ghost use Rattle.residual.specs.Taken.{LeftIn};
-ghost use Rattle.keeping.specs.Arrays.{Arrays};
+ghost use Rattle.half.specs.Weights.{largest_sum};
 ghost use Rattle.keeping.specs.Sets.{Apart, sets_of};
-ghost use Rattle.keeping.specs.Keeping.{KeptMore};
 ghost use Rattle.settle.specs.Settled.{left_with, SettledAs, StepAs, AfterForcing};
 
-use bound::{Charged, bound};
+use bound::bound;
+use chart::Chart;
 use forced::Forced;
 use given::Given;
 use graph::transposed;
 use half::Half;
-use keeping::{More, keep_more};
+use keeping::keep_more;
 
 // Whether nothing here is worth what is wanted; otherwise the decisions that are left, what they leave open and what they keep in weight.
 #[derive(Clone, Copy)]
@@ -57,7 +54,7 @@ fn enough(upper: u32, want: u32) -> u32
 }
 
 // Whether nothing is open any more.
-fn is_decided(h: Half) -> bool {
+fn is_decided(h: &Half) -> bool {
     if h.open_options != 0 {
         return false;
     }
@@ -65,8 +62,8 @@ fn is_decided(h: Half) -> bool {
 }
 
 // The forced decisions, as sets.
-fn sets_of(f: Forced) -> Given
-    ensures { result ≡ sets_of f }
+fn sets_of(f: &Forced) -> Given
+    ensures { result ≡ sets_of f.now }
 {
     Given {
         kept: f.kept,
@@ -77,8 +74,8 @@ fn sets_of(f: Forced) -> Given
 }
 
 // The decisions that are left, with what the forced ones leave open and keep in weight; where they are more, there is another round.
-fn left_with(g: Given, h: Half, more: bool) -> Step
-    ensures { result ≡ left_with g h more }
+fn left_with(g: Given, h: &Half, more: bool) -> Step
+    ensures { result ≡ left_with g h.now more }
 {
     Step {
         settled: Settled {
@@ -92,149 +89,52 @@ fn left_with(g: Given, h: Half, more: bool) -> Step
     }
 }
 
-// What is known before what: a full table.
-fn rows_of(f: Forced) -> [u32; 32]
-    ensures { (result ≡ f.known) × (length result ≡ 32) }
-{
-    f.known
-}
-
-// Items that may be kept besides, by what the charges left and what can be spared.
-fn keep_besides(
-    g: Given,
-    known: &[u32],
-    after: &[u32],
-    first: &[u8],
-    second: &[u8],
-    n: usize,
-    m: usize,
-    h: Half,
-    c: Charged,
-    spare: u32,
-) -> More
-    requires { EndsAreSlots n m first.now second.now × (n ≤ length known.now) × (n ≤ length after.now) × LeftIn n m c.left_options c.left_orderings × (length c.left_options ≡ 32) × (length c.left_orderings ≡ 64) }
-    ensures { KeptMore known.now after.now first.now second.now n m h.open_options h.open_orderings c.left_options c.left_orderings spare g result }
-{
-    let options = c.left_options;
-    let orderings = c.left_orderings;
-    keep_more(
-        g,
-        known,
-        after,
-        first,
-        second,
-        n,
-        m,
-        h.open_options,
-        h.open_orderings,
-        &options,
-        &orderings,
-        spare,
-    )
-}
-
 // After forcing: an end where even the upper limit, less what is charged, is below what is wanted; otherwise items that may be kept besides.
-fn after_forcing(
-    f: Forced,
-    h: Half,
-    want: u32,
-    first: &[u8],
-    second: &[u8],
-    weights: &[u16],
-    ordering_weights: &[u16],
-    n: usize,
-    m: usize,
-) -> Step
-    requires { EndsAreSlots n m first.now second.now × HasWeights n m weights.now ordering_weights.now × (want ≤ h.upper) × (h.upper ≤ largest_sum) }
-    ensures { AfterForcing n m first.now second.now weights.now ordering_weights.now want f h result }
+fn after_forcing(chart: &Chart, f: &Forced, h: &Half, want: u32) -> Step
+    requires { (want ≤ h.now.upper) × (h.now.upper ≤ largest_sum) }
+    ensures { AfterForcing chart.now want f.now h.now result }
 {
     let g = sets_of(f);
-    let known = rows_of(f);
-    let after = transposed(&known, n);
+    let after = transposed(&h.known, chart.option_count);
     let e = enough(h.upper, want);
-    let c = bound(
-        &known,
-        &after,
-        first,
-        second,
-        weights,
-        ordering_weights,
-        n,
-        m,
-        h.open_options,
-        h.open_orderings,
-        e,
-    );
+    let c = bound(chart, &h.known, &after, h.open_options, h.open_orderings, e);
     if h.upper < want + c.charged {
         return nothing_left(g);
     }
     let spare = h.upper - want - c.charged;
-    let k = keep_besides(g, &known, &after, first, second, n, m, h, c, spare);
+    let k = keep_more(chart, g, h, &after, &c.left, spare);
     left_with(k.given, h, k.more)
 }
 
 // One round: forced decisions, and an end where even their upper limit is below what is wanted.
-fn one_round(
-    g: Given,
-    want: u32,
-    t: [u32; 32],
-    first: &[u8],
-    second: &[u8],
-    weights: &[u16],
-    ordering_weights: &[u16],
-    n: usize,
-    m: usize,
-) -> Step
-    requires { Arrays n m first.now second.now t weights.now ordering_weights.now × Apart n m g }
-    ensures { StepAs n m first.now second.now t weights.now ordering_weights.now want g result }
+fn one_round(chart: &Chart, g: Given, want: u32) -> Step
+    requires { Apart chart.now g }
+    ensures { StepAs chart.now want g result }
 {
-    let f = forced::force(g, t, first, second, n, m);
+    let f = forced::force(chart, g);
     let contradiction = f.contradiction;
     if contradiction {
         return nothing_left(g);
     }
-    let h = half::half_decided(f, weights, ordering_weights, n, m);
+    let h = half::half_decided(chart, &f);
     if h.upper < want {
         return nothing_left(g);
     }
-    if is_decided(h) {
-        let left = sets_of(f);
-        return left_with(left, h, false);
+    if is_decided(&h) {
+        let left = sets_of(&f);
+        return left_with(left, &h, false);
     }
-    after_forcing(f, h, want, first, second, weights, ordering_weights, n, m)
+    after_forcing(chart, &f, &h, want)
 }
 
 // Round after round, until nothing more is kept.
-pub fn settle<'a>(
-    g: Given,
-    want: u32,
-    t: [u32; 32],
-    first: &'a [u8],
-    second: &'a [u8],
-    weights: &'a [u16],
-    ordering_weights: &'a [u16],
-    n: usize,
-    m: usize,
-) -> Settled
-    requires { Arrays n m first.now second.now t weights.now ordering_weights.now × Apart n m g × (want ≤ largest_sum + 1 + largest_value) }
-    ensures { SettledAs n m first.now second.now t weights.now ordering_weights.now want g result }
+pub fn settle(chart: &Chart, g: Given, want: u32) -> Settled
+    requires { Apart chart.now g × (want ≤ largest_sum + 1 + largest_value) }
+    ensures { SettledAs chart.now want g result }
 {
-    let x = one_round(g, want, t, first, second, weights, ordering_weights, n, m);
-    let s = x.settled;
-    let more = x.more;
-    if more {
-        let given = s.given;
-        return settle(
-            given,
-            want,
-            t,
-            first,
-            second,
-            weights,
-            ordering_weights,
-            n,
-            m,
-        );
+    let x = one_round(chart, g, want);
+    if x.more {
+        return settle(chart, x.settled.given, want);
     }
-    s
+    x.settled
 }

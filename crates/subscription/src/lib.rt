@@ -1,6 +1,6 @@
-// A record by slots. For the crates above: the record must have passed `is_recorded`.
+// The chart of a record. For the crates above: the record must have passed `is_recorded`.
 #![tactic(auto)]
 
-mod slots_of_sheet;
+mod charting;
 
-pub use slots_of_sheet::{BySlot, by_slot};
+pub use charting::chart_of;

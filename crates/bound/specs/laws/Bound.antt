@@ -1,55 +1,51 @@
 -- Charging nothing, and one charge after another, keeps what is charged; from the start on it is a bound.
-use Rattle.std.specs.Prelude.{◌≡◌, List, ℕ, ◌+◌, ◌≤◌, ◌<◌, length}
+use Rattle.std.specs.Prelude.{◌≡◌, List, ℕ, ◌+◌, ◌≤◌, ◌<◌}
 use Rattle.std.proofs.Common.{sym, subst, arith}
-use Rattle.rules.specs.laws.search.Charged as R
-use Rattle.graph.specs.Shown.{counted}
 use Rattle.half.specs.Weights.{largest_sum}
-use Rattle.residual.specs.Taken.{residual_in, LeftIn}
+use Rattle.residual.specs.Left.{LeftFor}
+use Rattle.residual.specs.declared.starting.Left.{Left}
 use Rattle.residual.specs.Started.{StartsAs}
 use Rattle.charge.specs.Charges.{ChargedAs}
 use Rattle.charge.specs.laws.Shown.{charge_charged}
 use Rattle.residual.specs.laws.Shown.{start_charged}
+use Rattle.chart.specs.declared.chart.Chart.{Chart}
 use Rattle.bound.specs.declared.charging.Charged.{Charged}
-use Rattle.bound.specs.Bound.{ChargesMore, KeepsCharged, BoundedAs}
+use Rattle.bound.specs.Bound.{ChargesMore, ChargedOn, KeepsCharged, BoundedAs}
 
-module _ {known firsts seconds : List ℕ} {n m : ℕ} where
-  pub charged_nothing : {before : ℕ} {options orderings : List ℕ} → before ≤ 10551136 → LeftIn n m options orderings → KeepsCharged known firsts seconds n m before before options orderings options orderings
+module _ {chart : Chart} {known : List ℕ} where
+  pub charged_nothing : {before : ℕ} {left : Left} → before ≤ 10551136 → LeftFor chart left → KeepsCharged chart known before before left left
   charged_nothing l h = record { few = l; left_in = h; keeps = λ v d sh c. c }
 
   -- one charge
-  pub charged_one : {e : ℕ} {options orderings options' orderings' chain : List ℕ} {k : ℕ} → ChargedAs known firsts seconds n m chain k e options orderings options' orderings' → ChargesMore known firsts seconds n m e options orderings options' orderings'
-  charged_one {e} {options} {orderings} {options'} {orderings'} {chain} {k} done = record {
+  pub charged_one : {e : ℕ} {left left' : Left} {chain : List ℕ} {k : ℕ} → ChargedAs known chart.firsts chart.seconds chart.option_count chart.ordering_count chain k e left.options left.orderings left'.options left'.orderings → ChargesMore chart known e left left'
+  charged_one {e} {left} {left'} {chain} {k} done = record {
     few = done.few;
     left_in = done.left_in;
-    keeps = λ before v d sh c. charge_charged v d n m known firsts seconds sh chain k e before options orderings options' orderings' done c;
+    keeps = λ before v d sh c. charge_charged v d chart.option_count chart.ordering_count known chart.firsts chart.seconds sh chain k e before left.options left.orderings left'.options left'.orderings done c;
   }
 
   -- one charge more
-  pub charged_once_more : {start before after e : ℕ} {options orderings options' orderings' options'' orderings'' : List ℕ} → KeepsCharged known firsts seconds n m start before options orderings options' orderings'
-      → ChargesMore known firsts seconds n m e options' orderings' options'' orderings'' → before < largest_sum + 1 → after ≡ before + e → KeepsCharged known firsts seconds n m start after options orderings options'' orderings''
-  charged_once_more {start} {before} {after} {e} {options} {orderings} {options'} {orderings'} {options''} {orderings''} w more l q = record {
+  pub charged_once_more : {start before after e : ℕ} {left left' left'' : Left} → KeepsCharged chart known start before left left' → ChargesMore chart known e left' left'' → before < largest_sum + 1 → after ≡ before + e
+      → KeepsCharged chart known start after left left''
+  charged_once_more {start} {before} {after} {e} {left} {left'} {left''} w more l q = record {
     few = (let f = more.few in omega arith);
     left_in = more.left_in;
-    keeps = λ v d sh c. subst (λ z. R.Charged (counted n m v) d z (residual_in options'' orderings'')) (sym q) (more.keeps before v d sh (w.keeps v d sh c));
+    keeps = λ v d sh c. subst (λ z. ChargedOn chart v d z left'') (sym q) (more.keeps before v d sh (w.keeps v d sh c));
   }
 
   -- one after another
-  pub charged_then : {start before after : ℕ} {options orderings options' orderings' options'' orderings'' : List ℕ} → KeepsCharged known firsts seconds n m start before options orderings options' orderings'
-      → KeepsCharged known firsts seconds n m before after options' orderings' options'' orderings'' → KeepsCharged known firsts seconds n m start after options orderings options'' orderings''
+  pub charged_then : {start before after : ℕ} {left left' left'' : Left} → KeepsCharged chart known start before left left' → KeepsCharged chart known before after left' left'' → KeepsCharged chart known start after left left''
   charged_then w z = record { few = z.few; left_in = z.left_in; keeps = λ v d sh c. z.keeps v d sh (w.keeps v d sh c) }
 
   -- what the charges began with is nothing
-  pub charged_from_nothing : {start after : ℕ} {options orderings options' orderings' : List ℕ} → start ≡ 0 → KeepsCharged known firsts seconds n m start after options orderings options' orderings'
-      → KeepsCharged known firsts seconds n m 0 after options orderings options' orderings'
-  charged_from_nothing {start} {after} {options} {orderings} {options'} {orderings'} e w = subst (λ z. KeepsCharged known firsts seconds n m z after options orderings options' orderings') e w
+  pub charged_from_nothing : {start after : ℕ} {left left' : Left} → start ≡ 0 → KeepsCharged chart known start after left left' → KeepsCharged chart known 0 after left left'
+  charged_from_nothing {start} {after} {left} {left'} e w = subst (λ z. KeepsCharged chart known z after left left') e w
 
 -- What is charged from the start on is a bound.
-pub bounded : {known firsts seconds ws bs options orderings : List ℕ} {n m open_options open_orderings : ℕ} (c : Charged) → StartsAs open_options ws 32 n options → StartsAs open_orderings bs 64 m orderings
-    → KeepsCharged known firsts seconds n m 0 c.charged options orderings c.left_options c.left_orderings → length c.left_options ≡ 32 → length c.left_orderings ≡ 64 → BoundedAs known firsts seconds n m ws bs open_options open_orderings c
-bounded {known} {firsts} {seconds} {ws} {bs} {options} {orderings} {n} {m} {open_options} {open_orderings} c s u w p q = record {
+pub bounded : {chart : Chart} {known : List ℕ} {left : Left} {open_options open_orderings : ℕ} (c : Charged) → StartsAs open_options chart.weights 32 chart.option_count left.options → StartsAs open_orderings chart.ordering_weights 64 chart.ordering_count left.orderings
+    → KeepsCharged chart known 0 c.charged left c.left → BoundedAs chart known open_options open_orderings c
+bounded {chart} {known} {left} {open_options} {open_orderings} c s u w = record {
   few = w.few;
-  option_size = p;
-  ordering_size = q;
   left_in = w.left_in;
-  charged = λ v d sh weighs ho hu. w.keeps v d sh (start_charged v d n m ws bs weighs open_options open_orderings ho hu options orderings s u);
+  charged = λ v d sh weighs ho hu. w.keeps v d sh (start_charged v d chart.option_count chart.ordering_count chart.weights chart.ordering_weights weighs open_options open_orderings ho hu left.options left.orderings s u);
 }

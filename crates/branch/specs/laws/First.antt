@@ -1,5 +1,6 @@
 -- One slot more that is not in the set; the first open item of two sets; no open item stands before it in the list of decisions.
-use Rattle.std.specs.Prelude.{◌≡◌, true, false, List, ◌⊎◌, ℕ, suc, ◌+◌, ◌-◌, ◌≤◌, ◌<◌, get_or, T}
+use Rattle.std.specs.Prelude.{◌≡◌, true, false, ◌⊎◌, ℕ, suc, ◌+◌, ◌-◌, ◌≤◌, ◌<◌, get_or, T}
+use Rattle.chart.specs.declared.chart.Chart.{Chart}
 use Rattle.std.proofs.Common.{sym, subst, ◌∙◌, inl, inr, eq-or-lt_of_le, le_of_suc-le-suc, arith}
 use Rattle.rules.specs.Decisions.{Open, is_open}
 use Rattle.rows.specs.Bits.{has}
@@ -52,11 +53,14 @@ module _ (options orderings n m : ℕ) where
     }
 
 -- ---- the first item in slot order
-module _ {n m : ℕ} {firsts seconds rows ws bs : List ℕ} {want : ℕ} {g : Given} (x : Settled) (left : LeftOf n m firsts seconds rows ws bs want g x)
-    (i : ℕ) (first : FirstItem x.open_options x.open_orderings n m i) (l : i < 96) where
+module _ {chart : Chart} {want : ℕ} {g : Given} (x : Settled) (left : LeftOf chart want g x)
+    (i : ℕ) (first : FirstItem x.open_options x.open_orderings chart.option_count chart.ordering_count i) (l : i < 96) where
+  abbrev n : ℕ
+  n = chart.option_count
+
   -- every open item stands at its place or after it
-  pub first_in_the_list : (k : ℕ) → k < place n i → T (is_open (get_or (decisions_of n m x.given) k Open)) → ⊥
-  first_in_the_list = let o = open_item x left i first.picked l in none_before_item n m x.given i o
+  pub first_in_the_list : (k : ℕ) → k < place n i → T (is_open (get_or (decisions_of chart x.given) k Open)) → ⊥
+  first_in_the_list = let o = open_item x left i first.picked l in none_before_item chart x.given i o
       (λ h j k. let b = (o.option h).0 in sym (holds_at left.options j (omega arith)) ∙ first.none_before h j k)
       (λ h j k. sym (holds_at left.options j k) ∙ first.no_option h j k)
       (λ h j k. let b = (o.ordering h).0 in sym (holds_at left.orderings j (omega arith)) ∙ first.no_ordering_before (i - 32) (omega arith) b j k)

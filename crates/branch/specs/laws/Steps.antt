@@ -1,5 +1,6 @@
 -- Each way out of the recursive branch keeps its promise.
 use Rattle.std.specs.Prelude.{◌≡◌, refl, Bool, true, false, cond, List, ℕ, suc, ◌+◌, ◌≤◌, ◌<◌, set, T, ltb}
+use Rattle.chart.specs.declared.chart.Chart.{Chart}
 use Rattle.std.proofs.Common.{sym, ap, ◌∙◌, arith, ltb-true, ltb-false}
 use Rattle.std.proofs.Math.Path.{subst}
 use Rattle.std.proofs.Math.Option.{some}
@@ -15,7 +16,7 @@ use Rattle.rules.specs.laws.search.Reduces.{reduces_weaker}
 use Rattle.rules.proofs.laws.search.Reduces.{finds_reduced}
 use Rattle.half.specs.Weights.{largest_sum}
 use Rattle.given.specs.declared.sets.Given.{Given}
-use Rattle.keeping.specs.Arrays.{ShowsSheet}
+use Rattle.chart.specs.Chart.{ShowsSheet}
 use Rattle.keeping.specs.Sets.{decisions_of, chosen_list, place, with_item_kept, with_item_dropped}
 use Rattle.settle.specs.Settled.{LeftOf, SettledAs}
 use Rattle.keeping.specs.laws.Shown.{kept_shown, item_kept_shown, item_dropped_shown, place_below}
@@ -29,12 +30,18 @@ use Rattle.branch.specs.Shown.{shown}
 use Rattle.branch.specs.Branch.{Branched}
 use Rattle.branch.specs.laws.First.{first_in_the_list}
 
-module _ (n m : ℕ) (firsts seconds rows ws bs : List ℕ) (tolerance ceiling : ℕ) (g : Given) (a : SoFar) (small : a.goal ≤ largest_sum + 1) (want : ℕ) (ew : want ≡ wanted a tolerance) where
+module _ (chart : Chart) (tolerance ceiling : ℕ) (g : Given) (a : SoFar) (small : a.goal ≤ largest_sum + 1) (want : ℕ) (ew : want ≡ wanted a tolerance) where
+  abbrev n : ℕ
+  n = chart.option_count
+
+  abbrev m : ℕ
+  m = chart.ordering_count
+
   abbrev d : List Decision
-  d = decisions_of n m g
+  d = decisions_of chart g
 
   abbrev Promise : Given → SoFar → SoFar → Type 0
-  Promise = Branched n m firsts seconds rows ws bs tolerance ceiling
+  Promise = Branched chart tolerance ceiling
 
   -- ---- nothing more is worth enough
   pub step_enough : ceiling < want → Promise g a a
@@ -45,7 +52,7 @@ module _ (n m : ℕ) (firsts seconds rows ws bs : List ℕ) (tolerance ceiling :
         finds_cut (value_of s) (ConsistentRelaxation s) tolerance d (shown n m a) ceiling (λ r o _. top r o) (omega arith);
   }
 
-  module _ (x : Settled) (settled : SettledAs n m firsts seconds rows ws bs want g x) where
+  module _ (x : Settled) (settled : SettledAs chart want g x) where
     pub step_over : x.over ≡ true → Promise g a a
     step_over e = record {
       goal = small;
@@ -55,14 +62,14 @@ module _ (n m : ℕ) (firsts seconds rows ws bs : List ℕ) (tolerance ceiling :
     }
 
     module _ (e : x.over ≡ false) where
-      left : LeftOf n m firsts seconds rows ws bs want g x
+      left : LeftOf chart want g x
       left = settled.left e
 
       -- what is found among the decisions that are left is found
-      found_left : (s : Lines) → ShowsSheet s n m firsts seconds rows ws bs → (now : R.SoFar)
-          → Finds (value_of s) (ConsistentRelaxation s) tolerance (decisions_of n m x.given) (shown n m a) now → Finds (value_of s) (ConsistentRelaxation s) tolerance d (shown n m a) now
-      found_left s sh now f = finds_reduced (value_of s) (ConsistentRelaxation s) tolerance d (decisions_of n m x.given) (shown n m a) now
-          (reduces_weaker (value_of s) (ConsistentRelaxation s) a.goal tolerance want d (decisions_of n m x.given) (let k = wanted_below a tolerance in omega arith) (left.reduces s sh)) f
+      found_left : (s : Lines) → ShowsSheet s chart → (now : R.SoFar)
+          → Finds (value_of s) (ConsistentRelaxation s) tolerance (decisions_of chart x.given) (shown n m a) now → Finds (value_of s) (ConsistentRelaxation s) tolerance d (shown n m a) now
+      found_left s sh now f = finds_reduced (value_of s) (ConsistentRelaxation s) tolerance d (decisions_of chart x.given) (shown n m a) now
+          (reduces_weaker (value_of s) (ConsistentRelaxation s) a.goal tolerance want d (decisions_of chart x.given) (let k = wanted_below a tolerance in omega arith) (left.reduces s sh)) f
 
       module _ (i : ℕ) (first : FirstItem x.open_options x.open_orderings n m i) where
         -- ---- nothing is open: a leaf
@@ -70,7 +77,7 @@ module _ (n m : ℕ) (firsts seconds rows ws bs : List ℕ) (tolerance ceiling :
         unfolding taken
         step_leaf k r q = subst (Promise g a) (sym q) (go (ltb x.lower a.goal) refl)
           where
-            z : open_items (decisions_of n m x.given) ≡ 0
+            z : open_items (decisions_of chart x.given) ≡ 0
             z = none_open x left i first.picked k
 
             go : (b : Bool) → ltb x.lower a.goal ≡ b → Promise g a (cond b a (record { goal = x.lower + 1; found = true; kept = x.given.kept; kept_orderings = x.given.kept_orderings }))
@@ -78,20 +85,20 @@ module _ (n m : ℕ) (firsts seconds rows ws bs : List ℕ) (tolerance ceiling :
               goal = small;
               unfound = λ _. refl;
               finds = λ s sh top. let w = ltb-true x.lower a.goal f in let v = left.worth s sh in
-                  found_left s sh (shown n m a) (finds_worse (value_of s) (ConsistentRelaxation s) tolerance (decisions_of n m x.given) (shown n m a) z (omega arith));
+                  found_left s sh (shown n m a) (finds_worse (value_of s) (ConsistentRelaxation s) tolerance (decisions_of chart x.given) (shown n m a) z (omega arith));
             }
             go false f = record {
               goal = (let w = left.small in omega arith);
               unfound = λ w. absurd (subst T w tt);
               finds = λ s sh top. let w = ltb-false x.lower a.goal f in let v = left.worth s sh in
-                  found_left s sh _ (subst (λ y. Finds (value_of s) (ConsistentRelaxation s) tolerance (decisions_of n m x.given) (shown n m a) y) (found s sh)
-                  (finds_leaf (value_of s) (ConsistentRelaxation s) tolerance (decisions_of n m x.given) (shown n m a) z (left.consistent s sh) (omega arith)));
+                  found_left s sh _ (subst (λ y. Finds (value_of s) (ConsistentRelaxation s) tolerance (decisions_of chart x.given) (shown n m a) y) (found s sh)
+                  (finds_leaf (value_of s) (ConsistentRelaxation s) tolerance (decisions_of chart x.given) (shown n m a) z (left.consistent s sh) (omega arith)));
             }
               where
-                found : (s : Lines) (sh : ShowsSheet s n m firsts seconds rows ws bs) → ◌≡◌ {A = R.SoFar} (record { goal = suc (value_of s (just_the_kept (decisions_of n m x.given))); find = some (just_the_kept (decisions_of n m x.given)) })
+                found : (s : Lines) (sh : ShowsSheet s chart) → ◌≡◌ {A = R.SoFar} (record { goal = suc (value_of s (just_the_kept (decisions_of chart x.given))); find = some (just_the_kept (decisions_of chart x.given)) })
                     (record { goal = x.lower + 1; find = some (chosen_list n m x.given.kept x.given.kept_orderings) })
-                found s sh = let v = left.worth s sh in let goal : suc (value_of s (just_the_kept (decisions_of n m x.given))) ≡ x.lower + 1 = omega arith in
-                    let kept = kept_shown n m x.given in λ j. record { goal = goal j; find = some (kept j) }
+                found s sh = let v = left.worth s sh in let goal : suc (value_of s (just_the_kept (decisions_of chart x.given))) ≡ x.lower + 1 = omega arith in
+                    let kept = kept_shown chart x.given in λ j. record { goal = goal j; find = some (kept j) }
 
         -- ---- the first open item is kept (y), and after that dropped (z)
         pub step_split : i < 96 → (y z : Given) → y ≡ with_item_kept x.given i → z ≡ with_item_dropped x.given i → (b r : SoFar) → Promise y a b → Promise z b r → Promise g a r
@@ -104,13 +111,13 @@ module _ (n m : ℕ) (firsts seconds rows ws bs : List ℕ) (tolerance ceiling :
         }
           where
             e' : List Decision
-            e' = decisions_of n m x.given
+            e' = decisions_of chart x.given
 
             next : (c : Decision) → set e' (place n i) c ≡ decide_next c e'
-            next c = sym (decide_next_sets c e' (place n i) (place_below n m x.given i (open_item x left i first.picked l)) (is_open_there x left i first.picked l) (first_in_the_list x left i first l))
+            next c = sym (decide_next_sets c e' (place n i) (place_below chart x.given i (open_item x left i first.picked l)) (is_open_there x left i first.picked l) (first_in_the_list x left i first l))
 
-            kept_is : (y : Given) → y ≡ with_item_kept x.given i → decisions_of n m y ≡ decide_next Kept e'
-            kept_is y p = ap (decisions_of n m) p ∙ sym (item_kept_shown n m x.given i (open_item x left i first.picked l)) ∙ next Kept
+            kept_is : (y : Given) → y ≡ with_item_kept x.given i → decisions_of chart y ≡ decide_next Kept e'
+            kept_is y p = ap (decisions_of chart) p ∙ sym (item_kept_shown chart x.given i (open_item x left i first.picked l)) ∙ next Kept
 
-            dropped_is : (z : Given) → z ≡ with_item_dropped x.given i → decisions_of n m z ≡ decide_next Dropped e'
-            dropped_is z q = ap (decisions_of n m) q ∙ sym (item_dropped_shown n m x.given i (open_item x left i first.picked l)) ∙ next Dropped
+            dropped_is : (z : Given) → z ≡ with_item_dropped x.given i → decisions_of chart z ≡ decide_next Dropped e'
+            dropped_is z q = ap (decisions_of chart) q ∙ sym (item_dropped_shown chart x.given i (open_item x left i first.picked l)) ∙ next Dropped

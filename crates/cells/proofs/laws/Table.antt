@@ -10,17 +10,17 @@ use Rattle.rules.specs.Decisions.{DecidedBySlot}
 use Rattle.rules.specs.KnownBefore.{touches}
 use Rattle.rules.specs.Limits.{option_open, ordering_open, M, K, D, A, B, E, clash, weight_with_orderings, option_kept_lower, option_kept_upper, option_dropped_lower, option_dropped_upper, ordering_kept_lower, ordering_kept_upper, ordering_dropped_lower, ordering_dropped_upper}
 use Rattle.rows.specs.Bits.{has}
-use Rattle.graph.specs.Graph.{EndsAreSlots}
 use Rattle.graph.specs.Shown.{counted, Shows}
 use Rattle.forced.specs.Forced.{ForcedAs}
 use Rattle.rules.specs.Results.{option_limit, ordering_limit}
-use Rattle.half.specs.Weights.{weight_in, Weighs}
+use Rattle.chart.specs.Arrays.{weight_in, Weighs}
 use Rattle.half.specs.Half.{clashes_in, HalfDecidedAs}
 use Rattle.cells.specs.Cells.{no_limit, shown_limit, open_option_in, open_ordering_in, weight_with_orderings_in, option_limit_in, ordering_limit_in}
 use Rattle.half.specs.laws.Weights.{over_same, over_same_tests}
 use Rattle.half.specs.laws.Shown as H
 use Rattle.cells.proofs.laws.Charges.{same_weight_with_orderings}
 use Rattle.rules.specs.Results as R
+use Rattle.chart.specs.declared.chart.Chart.{Chart}
 use Rattle.forced.specs.declared.forcing.Forced.{Forced}
 use Rattle.cells.specs.declared.cells.Limit.{Limit}
 use Rattle.half.specs.declared.opened.Half.{Half}
@@ -38,55 +38,73 @@ same_cell false false l k e h = refl
 same_cell true false l k e h = absurd (subst T e tt)
 same_cell false true l k e h = absurd (subst T (sym e) tt)
 
-module _ (v : Subscription) (b : DecidedBySlot) (n m : ℕ) (firsts seconds rows ws bs : List ℕ)
-    (ends : EndsAreSlots n m firsts seconds) (shows : Shows v n m firsts seconds rows) (weighs : Weighs v n m ws bs) where
+module _ (v : Subscription) (b : DecidedBySlot) (chart : Chart)
+    (shows : Shows v chart.option_count chart.ordering_count chart.firsts chart.seconds chart.rows) (weighs : Weighs v chart.option_count chart.ordering_count chart.weights chart.ordering_weights) where
+  abbrev n : ℕ
+  n = chart.option_count
+
+  abbrev m : ℕ
+  m = chart.ordering_count
+
+  abbrev firsts : List ℕ
+  firsts = chart.firsts
+
+  abbrev seconds : List ℕ
+  seconds = chart.seconds
+
+  abbrev ws : List ℕ
+  ws = chart.weights
+
+  abbrev bs : List ℕ
+  bs = chart.ordering_weights
+
   abbrev s : Subscription
   s = counted n m v
 
-  module _ (f : Forced) (h : Half) (forces : ForcedAs s b f) (half : HalfDecidedAs f n m ws bs h) where
+  module _ (f : Forced) (h : Half) (forces : ForcedAs s b f) (half : HalfDecidedAs chart f h) where
     option_open_is : (i : ℕ) → i < n → has h.open_options i ≡ option_open s b i
-    option_open_is = H.option_open_is v b n m ws bs weighs f h forces half
+    option_open_is = H.option_open_is v b chart weighs f h forces half
 
     ordering_open_is : (u : ℕ) → u < m → has h.open_orderings u ≡ ordering_open s b u
-    ordering_open_is = H.ordering_open_is v b n m ws bs weighs f h forces half
+    ordering_open_is = H.ordering_open_is v b chart weighs f h forces half
 
     weight_is : (i : ℕ) → i < n → weight_in ws i ≡ v.weight i
-    weight_is = H.weight_is v b n m ws bs weighs
+    weight_is = H.weight_is v b chart weighs
 
     ordering_weight_is : (u : ℕ) → u < m → weight_in bs u ≡ v.ordering_weight u
-    ordering_weight_is = H.ordering_weight_is v b n m ws bs weighs
+    ordering_weight_is = H.ordering_weight_is v b chart weighs
 
     K_is : h.lower ≡ K s b
-    K_is = H.K_is v b n m ws bs weighs f h forces half
+    K_is = H.K_is v b chart weighs f h forces half
 
     M_less_D_is : h.upper ≡ M s b - D s b
-    M_less_D_is = H.M_less_D_is v b n m ws bs weighs f h forces half
+    M_less_D_is = H.M_less_D_is v b chart weighs f h forces half
 
     clash_is : (i j : ℕ) → i < n → j < n → clashes_in h.known i j ≡ clash s b i j
     unfolding clashes_in clash
     clash_is i j li lj = rw (half.knows, forces.known.at i j li lj, forces.known.at j i lj li) refl
 
-    charge_is : (p : ℕ → Bool) → weight_with_orderings_in h n m firsts seconds ws bs p ≡ weight_with_orderings s b p
+    charge_is : (p : ℕ → Bool) → weight_with_orderings_in chart h p ≡ weight_with_orderings s b p
     unfolding weight_with_orderings_in
     charge_is p = rw (
-      over_same n (weight_in ws) v.weight (open_option_in h n m firsts seconds ws bs p) (λ j. option_open s b j && p j) weight_is (λ j l. rw (option_open_is j l) refl),
-      over_same m (weight_in bs) v.ordering_weight (open_ordering_in h n m firsts seconds ws bs p)
+      over_same n (weight_in ws) v.weight (open_option_in chart h p) (λ j. option_open s b j && p j) weight_is (λ j l. rw (option_open_is j l) refl),
+      over_same m (weight_in bs) v.ordering_weight (open_ordering_in chart h p)
           (λ u. ordering_open s b u && ((option_open s b (v.first u) && p (v.first u)) || (option_open s b (v.second u) && p (v.second u)))) ordering_weight_is
-          (λ u l. rw (ordering_open_is u l, option_open_is (get_or firsts u 0) (ends.first u l), option_open_is (get_or seconds u 0) (ends.second u l), shows.first u l, shows.second u l) refl),
+          (λ u l. rw (ordering_open_is u l, option_open_is (get_or firsts u 0) (chart.ends.first u l), option_open_is (get_or seconds u 0) (chart.ends.second u l), shows.first u l, shows.second u l) refl),
     ) refl
 
-    A_is : (i : ℕ) → i < n → weight_with_orderings_in h n m firsts seconds ws bs (clashes_in h.known i) ≡ A s b i
+    A_is : (i : ℕ) → i < n → weight_with_orderings_in chart h (clashes_in h.known i) ≡ A s b i
     unfolding A
-    A_is i l = same_weight_with_orderings h n m firsts seconds ws bs ends (clashes_in h.known i) (clash s b i) (λ j k. clash_is i j l k) ∙ charge_is (clash s b i)
+    A_is i l = same_weight_with_orderings chart h (clashes_in h.known i) (clash s b i) (λ j k. clash_is i j l k) ∙ charge_is (clash s b i)
 
-    E_is : (u : ℕ) → u < m → weight_with_orderings_in h n m firsts seconds ws bs (λ j. clashes_in h.known (get_or firsts u 0) j || clashes_in h.known (get_or seconds u 0) j) ≡ E s b u
+    E_is : (u : ℕ) → u < m → weight_with_orderings_in chart h (λ j. clashes_in h.known (get_or firsts u 0) j || clashes_in h.known (get_or seconds u 0) j) ≡ E s b u
     unfolding E
-    E_is u l = same_weight_with_orderings h n m firsts seconds ws bs ends _ (λ j. clash s b (v.first u) j || clash s b (v.second u) j)
-        (λ j k. rw (clash_is (get_or firsts u 0) j (ends.first u l) k, clash_is (get_or seconds u 0) j (ends.second u l) k, shows.first u l, shows.second u l) refl)
+    E_is u l = same_weight_with_orderings chart h _ (λ j. clash s b (v.first u) j || clash s b (v.second u) j)
+        (λ j k. rw (clash_is (get_or firsts u 0) j (chart.ends.first u l) k, clash_is (get_or seconds u 0) j (chart.ends.second u l) k, shows.first u l, shows.second u l) refl)
         ∙ charge_is (λ j. clash s b (v.first u) j || clash s b (v.second u) j)
 
     -- The open options among {i} are i itself.
-    B_is : (i : ℕ) → T (option_open s b i) → weight_with_orderings_in h n m firsts seconds ws bs (eqb i) ≡ B s b i
+    B_is : (i : ℕ) → T (option_open s b i) → weight_with_orderings_in chart h (eqb i) ≡ B s b i
     unfolding B
     B_is i t = charge_is (eqb i) ∙ rw (
       over_same_tests n v.weight (λ j. option_open s b j && eqb i j) (eqb i) (λ j l. own j),
@@ -109,11 +127,11 @@ module _ (v : Subscription) (b : DecidedBySlot) (n m : ℕ) (firsts seconds rows
             go (yes e) = yes_and (option_open s b j) (eqb i j) (subst (λ z. T (option_open s b z)) e t)
             go (no k) = no_and (option_open s b j) (eqb i j) (ne_eqb i j k)
 
-    pub option_limit_is : (i : ℕ) → i < n → option_limit_in h n m firsts seconds ws bs i ≡ shown_limit (option_limit s b i)
+    pub option_limit_is : (i : ℕ) → i < n → option_limit_in chart h i ≡ shown_limit (option_limit s b i)
     unfolding option_limit_in option_limit option_kept_lower option_kept_upper option_dropped_lower option_dropped_upper
     option_limit_is i l = same_cell (has h.open_options i) (option_open s b i) _ _ (option_open_is i l) (λ t. rw (A_is i l, B_is i t, K_is, M_less_D_is, weight_is i l) refl)
 
-    pub ordering_limit_is : (u : ℕ) → u < m → ordering_limit_in h n m firsts seconds ws bs u ≡ shown_limit (ordering_limit s b u)
+    pub ordering_limit_is : (u : ℕ) → u < m → ordering_limit_in chart h u ≡ shown_limit (ordering_limit s b u)
     unfolding ordering_limit_in ordering_limit ordering_kept_lower ordering_kept_upper ordering_dropped_lower ordering_dropped_upper
     ordering_limit_is u l = same_cell (has h.open_orderings u) (ordering_open s b u) _ _ (ordering_open_is u l) (λ t. rw (
       E_is u l,

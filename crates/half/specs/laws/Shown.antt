@@ -10,13 +10,26 @@ use Rattle.rows.specs.Bits.{has}
 use Rattle.rows.specs.laws.Sets.{holds_at}
 use Rattle.graph.specs.Shown.{counted}
 use Rattle.forced.specs.Forced.{ForcedAs}
-use Rattle.half.specs.Weights.{weight_in, Weighs}
+use Rattle.chart.specs.Arrays.{weight_in, Weighs}
 use Rattle.half.specs.Half.{HalfDecidedAs}
 use Rattle.half.specs.laws.Weights.{over_same}
+use Rattle.chart.specs.declared.chart.Chart.{Chart}
 use Rattle.forced.specs.declared.forcing.Forced.{Forced}
 use Rattle.half.specs.declared.opened.Half.{Half}
 
-module _ (v : Subscription) (b : DecidedBySlot) (n m : ℕ) (ws bs : List ℕ) (weighs : Weighs v n m ws bs) where
+module _ (v : Subscription) (b : DecidedBySlot) (chart : Chart) (weighs : Weighs v chart.option_count chart.ordering_count chart.weights chart.ordering_weights) where
+  abbrev n : ℕ
+  n = chart.option_count
+
+  abbrev m : ℕ
+  m = chart.ordering_count
+
+  abbrev ws : List ℕ
+  ws = chart.weights
+
+  abbrev bs : List ℕ
+  bs = chart.ordering_weights
+
   abbrev s : Subscription
   s = counted n m v
 
@@ -26,7 +39,7 @@ module _ (v : Subscription) (b : DecidedBySlot) (n m : ℕ) (ws bs : List ℕ) (
   pub ordering_weight_is : (u : ℕ) → u < m → weight_in bs u ≡ v.ordering_weight u
   ordering_weight_is u l = sym (weighs.ordering_weight u l)
 
-  module _ (f : Forced) (h : Half) (forces : ForcedAs s b f) (half : HalfDecidedAs f n m ws bs h) where
+  module _ (f : Forced) (h : Half) (forces : ForcedAs s b f) (half : HalfDecidedAs chart f h) where
     pub option_open_is : (i : ℕ) → i < n → has h.open_options i ≡ option_open s b i
     option_open_is i l = holds_at half.options i l ∙ rw (holds_at forces.kept i l, holds_at forces.dropped i l) refl
 

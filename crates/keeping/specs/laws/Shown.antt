@@ -1,5 +1,6 @@
 -- The sets that the search carries show its decision list, before and after forcing and with one item more decided.
 use Rattle.std.specs.Prelude.{◌≡◌, Bool, not, ◌&&◌, ◌||◌, cond, List, ◌∷◌, ◌++◌, take, drop, eqb}
+use Rattle.chart.specs.declared.chart.Chart.{Chart}
 use Rattle.std.proofs.Math.Path.{refl, sym, subst, ap}
 use Rattle.std.proofs.Common.{◌∙◌, take_at, drop_at, eqb→eq}
 use Rattle.std.proofs.Math.Bool.{true, false}
@@ -26,7 +27,7 @@ use Rattle.given.specs.Given.{Gives}
 use Rattle.forced.specs.Forced.{ForcedAs, ForcedBy}
 use Rattle.given.specs.declared.sets.Given.{Given}
 use Rattle.forced.specs.declared.forcing.Forced.{Forced}
-use Rattle.keeping.specs.Arrays.{ShowsSheet}
+use Rattle.chart.specs.Chart.{ShowsSheet}
 use Rattle.keeping.specs.Sets.{decisions_of, chosen_list, Apart, OpenItem, place, sets_of, with_option_kept, with_option_dropped, with_ordering_kept, with_ordering_dropped, with_item_kept, with_item_dropped}
 
 not_has : (b : Bool) → (T b → ⊥) → b ≡ false
@@ -75,23 +76,6 @@ holds_from row n p below same = record { at = λ j. go j (ltb j n) refl }
     go j true e = rw e (same j (ltb-true j n e))
     go j false e = rw e (not_has (has row j) (λ t. let x = below j t in let y = ltb-false j n e in absurd (omega arith)))
 
-module _ (s : Lines) (n m : ℕ) (en : length s.options ≡ n) (em : length s.orderings ≡ m) (g : Given) (ap_g : Apart n m g) where
-  pub gives_of : Gives (decided_by_slot s (decisions_of n m g)) n m g
-  unfolding decisions_of
-  gives_of = record {
-    kept = holds_from g.kept n _ ap_g.kept (λ i l. sym (ap is_kept (option_at s n m en em p q i l) ∙ kept_of_two (has g.kept i) (has g.dropped i)));
-    dropped = holds_from g.dropped n _ ap_g.dropped (λ i l. sym (ap is_dropped (option_at s n m en em p q i l) ∙ dropped_of_two (has g.kept i) (has g.dropped i) (ap_g.options i)));
-    kept_orderings = holds_from g.kept_orderings m _ ap_g.kept_orderings (λ u l. sym (ap is_kept (ordering_at s n m en em p q u l) ∙ kept_of_two (has g.kept_orderings u) (has g.dropped_orderings u)));
-    dropped_orderings = holds_from g.dropped_orderings m _ ap_g.dropped_orderings (λ u l. sym (ap is_dropped (ordering_at s n m en em p q u l) ∙ dropped_of_two (has g.kept_orderings u) (has g.dropped_orderings u) (ap_g.orderings u)));
-  }
-    where
-      p : ℕ → Decision
-      p i = decision_of (has g.kept i) (has g.dropped i)
-
-      q : ℕ → Decision
-      q u = decision_of (has g.kept_orderings u) (has g.dropped_orderings u)
-
--- ---- after forcing
 pub counted_is : (s : Lines) (n m : ℕ) → length s.options ≡ n → length s.orderings ≡ m → counted n m (subscription s) ≡ subscription s
 unfolding subscription
 counted_is s n m en em = λ i. record {
@@ -104,47 +88,6 @@ counted_is s n m en em = λ i. record {
   ordering_weight = (subscription s).ordering_weight;
   before = (subscription s).before;
 }
-
-module _ (s : Lines) {n m : ℕ} {firsts seconds rows ws bs : List ℕ} (sh : ShowsSheet s n m firsts seconds rows ws bs) (g : Given) (ap_g : Apart n m g) (f : Forced) (by : ForcedBy n m firsts seconds rows g f) where
-  abbrev d : List Decision
-  d = decisions_of n m g
-
-  pub forced_as : ForcedAs (subscription s) (decided_by_slot s d) f
-  forced_as = subst (λ v. ForcedAs v (decided_by_slot s d) f) (counted_is s n m sh.options sh.orderings)
-      (by (subscription s) (decided_by_slot s d) sh.shows (gives_of s n m sh.options sh.orderings g ap_g))
-
-  pub forced_shown : forced s d ≡ decisions_of n m (sets_of f)
-  unfolding forced decisions_of forced_option forced_ordering subscription
-  forced_shown =
-      let en = sh.options in let em = sh.orderings in
-      ap (λ k. list_of k F ++ list_of (length s.orderings) G) en ∙ ap (λ k. list_of n F ++ list_of k G) em
-      ∙ ap (λ l. l ++ list_of m G) (list_of_same n F (λ i. decision_of (has f.kept i) (has f.dropped i)) (λ i l. two (sym (holds_at forced_as.kept i (omega arith))) (sym (holds_at forced_as.dropped i (omega arith)))))
-      ∙ ap (λ l. list_of n (λ i. decision_of (has f.kept i) (has f.dropped i)) ++ l)
-      (list_of_same m G (λ u. decision_of (has f.kept_orderings u) (has f.dropped_orderings u)) (λ u l. two (sym (holds_at forced_as.kept_orderings u (omega arith))) (sym (holds_at forced_as.dropped_orderings u (omega arith)))))
-    where
-      F : ℕ → Decision
-      F = forced_option (subscription s) (decided_by_slot s d)
-
-      G : ℕ → Decision
-      G = forced_ordering (subscription s) (decided_by_slot s d)
-
-      two : {a a' c c' : Bool} → a ≡ a' → c ≡ c' → decision_of a c ≡ decision_of a' c'
-      two e h = λ i. decision_of (e i) (h i)
-
--- ---- the choice of the kept
-pub kept_shown : (n m : ℕ) (g : Given) → just_the_kept (decisions_of n m g) ≡ chosen_list n m g.kept g.kept_orderings
-unfolding decisions_of chosen_list list_of
-kept_shown n m g = append n (λ i. decision_of (has g.kept i) (has g.dropped i)) (list_of m (λ u. decision_of (has g.kept_orderings u) (has g.dropped_orderings u)))
-    ∙ ap (λ l. l ++ just_the_kept (list_of m (λ u. decision_of (has g.kept_orderings u) (has g.dropped_orderings u)))) (alone n (has g.kept) (has g.dropped))
-    ∙ ap (λ l. list_of n (has g.kept) ++ l) (alone m (has g.kept_orderings) (has g.dropped_orderings))
-  where
-    append : (n : ℕ) (p : ℕ → Decision) (rest : List Decision) → just_the_kept (list_of n p ++ rest) ≡ just_the_kept (list_of n p) ++ just_the_kept rest
-    append zero p rest = refl
-    append (suc n) p rest = ap (λ l. is_kept (p 0) ∷ l) (append n (λ i. p (suc i)) rest)
-
-    alone : (n : ℕ) (a b : ℕ → Bool) → just_the_kept (list_of n (λ i. decision_of (a i) (b i))) ≡ list_of n a
-    alone zero a b = refl
-    alone (suc n) a b = ap (λ x. x ∷ just_the_kept (list_of n (λ i. decision_of (a (suc i)) (b (suc i))))) (kept_of_two (a 0) (b 0)) ∙ ap (λ l. a 0 ∷ l) (alone n (λ i. a (suc i)) (λ i. b (suc i)))
 
 -- ---- one item more
 -- A set with one slot more, beside another.
@@ -176,93 +119,159 @@ dropped_changes : (k kept dropped i : ℕ) → has kept i ≡ false → list_of 
 dropped_changes k kept dropped i e = list_of_same k _ _ (λ j l. sym (ap (λ x. decision_of (has kept j) x) (has_with_slot dropped i j)
     ∙ with_dropped i j (has kept j) (has dropped j) (λ q t. subst T (ap (has kept) (sym (eqb→eq i j q)) ∙ e) t)))
 
-module _ (n m : ℕ) (g : Given) where
-  abbrev option : ℕ → Decision
-  option i = decision_of (has g.kept i) (has g.dropped i)
+module _ (chart : Chart) where
+  abbrev n : ℕ
+  n = chart.option_count
 
-  abbrev ordering : ℕ → Decision
-  ordering u = decision_of (has g.kept_orderings u) (has g.dropped_orderings u)
+  abbrev m : ℕ
+  m = chart.ordering_count
 
-  -- what stands at the place of an option, and of an ordering
-  pub option_stands : (i : ℕ) → i < n → get_or (decisions_of n m g) i Open ≡ option i
-  unfolding decisions_of
-  option_stands i l = getD_first n option (list_of m ordering) Open i l
-
-  pub ordering_stands : (u : ℕ) → u < m → get_or (decisions_of n m g) (n + u) Open ≡ ordering u
-  unfolding decisions_of
-  ordering_stands u l = getD_second n m option ordering Open u l
-
-  module _ (x : ℕ) (o : OpenItem n m g x) where
-    open_two : (a b : Bool) → a ≡ false → b ≡ false → T (is_open (decision_of a b))
-    open_two a b e f = rw (e, f) tt
-
-    pub item_open : T (is_open (get_or (decisions_of n m g) (place n x) Open))
-    unfolding place
-    item_open = go (ltb x 32) refl
+  module _ (s : Lines) (en : length s.options ≡ n) (em : length s.orderings ≡ m) (g : Given) (ap_g : Apart chart g) where
+    pub gives_of : Gives (decided_by_slot s (decisions_of chart g)) n m g
+    unfolding decisions_of
+    gives_of = record {
+      kept = holds_from g.kept n _ ap_g.kept (λ i l. sym (ap is_kept (option_at s n m en em p q i l) ∙ kept_of_two (has g.kept i) (has g.dropped i)));
+      dropped = holds_from g.dropped n _ ap_g.dropped (λ i l. sym (ap is_dropped (option_at s n m en em p q i l) ∙ dropped_of_two (has g.kept i) (has g.dropped i) (ap_g.options i)));
+      kept_orderings = holds_from g.kept_orderings m _ ap_g.kept_orderings (λ u l. sym (ap is_kept (ordering_at s n m en em p q u l) ∙ kept_of_two (has g.kept_orderings u) (has g.dropped_orderings u)));
+      dropped_orderings = holds_from g.dropped_orderings m _ ap_g.dropped_orderings (λ u l. sym (ap is_dropped (ordering_at s n m en em p q u l) ∙ dropped_of_two (has g.kept_orderings u) (has g.dropped_orderings u) (ap_g.orderings u)));
+    }
       where
-        go : (q : Bool) → ltb x 32 ≡ q → T (is_open (get_or (decisions_of n m g) (cond q x (n + (x - 32))) Open))
-        go true e = let w = o.option (ltb-true x 32 e) in subst (λ z. T (is_open z)) (sym (option_stands x w.0)) (open_two _ _ w.1 w.2)
-        go false e = let w = o.ordering (ltb-false x 32 e) in subst (λ z. T (is_open z)) (sym (ordering_stands (x - 32) w.0)) (open_two _ _ w.1 w.2)
+        p : ℕ → Decision
+        p i = decision_of (has g.kept i) (has g.dropped i)
 
-    pub item_kept_shown : set (decisions_of n m g) (place n x) Kept ≡ decisions_of n m (with_item_kept g x)
-    unfolding decisions_of place with_item_kept
-    item_kept_shown = go (ltb x 32) refl
+        q : ℕ → Decision
+        q u = decision_of (has g.kept_orderings u) (has g.dropped_orderings u)
+
+  -- ---- after forcing
+  module _ (s : Lines) (sh : ShowsSheet s chart) (g : Given) (ap_g : Apart chart g) (f : Forced) (by : ForcedBy chart g f) where
+    abbrev d : List Decision
+    d = decisions_of chart g
+
+    pub forced_as : ForcedAs (subscription s) (decided_by_slot s d) f
+    forced_as = subst (λ v. ForcedAs v (decided_by_slot s d) f) (counted_is s n m sh.options sh.orderings)
+        (by (subscription s) (decided_by_slot s d) sh.shows (gives_of s sh.options sh.orderings g ap_g))
+
+    pub forced_shown : forced s d ≡ decisions_of chart (sets_of f)
+    unfolding forced decisions_of forced_option forced_ordering subscription
+    forced_shown =
+        let en = sh.options in let em = sh.orderings in
+        ap (λ k. list_of k F ++ list_of (length s.orderings) G) en ∙ ap (λ k. list_of n F ++ list_of k G) em
+        ∙ ap (λ l. l ++ list_of m G) (list_of_same n F (λ i. decision_of (has f.kept i) (has f.dropped i)) (λ i l. two (sym (holds_at forced_as.kept i (omega arith))) (sym (holds_at forced_as.dropped i (omega arith)))))
+        ∙ ap (λ l. list_of n (λ i. decision_of (has f.kept i) (has f.dropped i)) ++ l)
+        (list_of_same m G (λ u. decision_of (has f.kept_orderings u) (has f.dropped_orderings u)) (λ u l. two (sym (holds_at forced_as.kept_orderings u (omega arith))) (sym (holds_at forced_as.dropped_orderings u (omega arith)))))
       where
-        go : (q : Bool) → ltb x 32 ≡ q → set (decisions_of n m g) (cond q x (n + (x - 32))) Kept ≡ decisions_of n m (cond q (with_option_kept g x) (with_ordering_kept g (x - 32)))
-        go true e = let w = o.option (ltb-true x 32 e) in set_first n option (list_of m ordering) Kept x w.0 ∙ ap (λ z. z ++ list_of m ordering) (kept_changes n g.kept g.dropped x)
-        go false e = let w = o.ordering (ltb-false x 32 e) in set_second n m option ordering Kept (x - 32) w.0 ∙ ap (λ z. list_of n option ++ z) (kept_changes m g.kept_orderings g.dropped_orderings (x - 32))
+        F : ℕ → Decision
+        F = forced_option (subscription s) (decided_by_slot s d)
 
-    pub item_dropped_shown : set (decisions_of n m g) (place n x) Dropped ≡ decisions_of n m (with_item_dropped g x)
-    unfolding decisions_of place with_item_dropped
-    item_dropped_shown = go (ltb x 32) refl
-      where
-        go : (q : Bool) → ltb x 32 ≡ q → set (decisions_of n m g) (cond q x (n + (x - 32))) Dropped ≡ decisions_of n m (cond q (with_option_dropped g x) (with_ordering_dropped g (x - 32)))
-        go true e = let w = o.option (ltb-true x 32 e) in set_first n option (list_of m ordering) Dropped x w.0 ∙ ap (λ z. z ++ list_of m ordering) (dropped_changes n g.kept g.dropped x w.1)
-        go false e = let w = o.ordering (ltb-false x 32 e) in set_second n m option ordering Dropped (x - 32) w.0 ∙ ap (λ z. list_of n option ++ z) (dropped_changes m g.kept_orderings g.dropped_orderings (x - 32) w.1)
+        G : ℕ → Decision
+        G = forced_ordering (subscription s) (decided_by_slot s d)
 
-    -- the place is in the list
-    pub place_below : place n x < length (decisions_of n m g)
-    unfolding place decisions_of
-    place_below = go (ltb x 32) refl
-      where
-        size : length (list_of n option ++ list_of m ordering) ≡ n + m
-        size = length-append (list_of n option) (list_of m ordering) ∙ let a = length_list_of n option in let b = length_list_of m ordering in omega arith
+        two : {a a' c c' : Bool} → a ≡ a' → c ≡ c' → decision_of a c ≡ decision_of a' c'
+        two e h = λ i. decision_of (e i) (h i)
 
-        go : (q : Bool) → ltb x 32 ≡ q → cond q x (n + (x - 32)) < length (list_of n option ++ list_of m ordering)
-        go true e = let w = o.option (ltb-true x 32 e) in let k = w.0 in let z = size in omega arith
-        go false e = let w = o.ordering (ltb-false x 32 e) in let k = w.0 in let z = size in omega arith
-
-  -- ---- what is open
-  neither_open : (a b : Bool) → not (a || b) ≡ false → T (is_open (decision_of a b)) → ⊥
-  neither_open true b e t = t
-  neither_open false true e t = t
-  neither_open false false e t = subst T e tt
-
-  option_closed : (j : ℕ) → not (has g.kept j || has g.dropped j) ≡ false → T (is_open (option j)) → ⊥
-  option_closed j = neither_open (has g.kept j) (has g.dropped j)
-
-  ordering_closed : (j : ℕ) → not (has g.kept_orderings j || has g.dropped_orderings j) ≡ false → T (is_open (ordering j)) → ⊥
-  ordering_closed j = neither_open (has g.kept_orderings j) (has g.dropped_orderings j)
-
-  pub nothing_open : ((i : ℕ) → i < n → not (has g.kept i || has g.dropped i) ≡ false) → ((u : ℕ) → u < m → not (has g.kept_orderings u || has g.dropped_orderings u) ≡ false) → open_items (decisions_of n m g) ≡ 0
-  unfolding decisions_of
-  nothing_open p q = none_open_in n option (list_of m ordering) (λ i l. option_closed i (p i l)) ∙ none_open_alone m ordering (λ u l. ordering_closed u (q u l))
-
-  -- No open item stands before item x, if none has a smaller number.
-  pub none_before_item : (x : ℕ) → OpenItem n m g x → (x < 32 → (j : ℕ) → j < x → not (has g.kept j || has g.dropped j) ≡ false)
-      → (32 ≤ x → (j : ℕ) → j < n → not (has g.kept j || has g.dropped j) ≡ false) → (32 ≤ x → (j : ℕ) → j < x - 32 → not (has g.kept_orderings j || has g.dropped_orderings j) ≡ false)
-      → (k : ℕ) → k < place n x → T (is_open (get_or (decisions_of n m g) k Open)) → ⊥
-  unfolding place
-  none_before_item x o among_options all_options among_orderings k l t = go (ltb x 32) refl l
+  -- ---- the choice of the kept
+  pub kept_shown : (g : Given) → just_the_kept (decisions_of chart g) ≡ chosen_list n m g.kept g.kept_orderings
+  unfolding decisions_of chosen_list list_of
+  kept_shown g =
+      append n (λ i. decision_of (has g.kept i) (has g.dropped i)) (list_of m (λ u. decision_of (has g.kept_orderings u) (has g.dropped_orderings u)))
+      ∙ ap (λ l. l ++ just_the_kept (list_of m (λ u. decision_of (has g.kept_orderings u) (has g.dropped_orderings u)))) (alone n (has g.kept) (has g.dropped))
+      ∙ ap (λ l. list_of n (has g.kept) ++ l) (alone m (has g.kept_orderings) (has g.dropped_orderings))
     where
-      past : (h : 32 ≤ x) → (k : ℕ) → k < n + (x - 32) → T (is_open (get_or (decisions_of n m g) k Open)) → ⊥
-      past h k l t = at (ltb k n) refl
-        where
-          at : (q : Bool) → ltb k n ≡ q → ⊥
-          at true e = let w = ltb-true k n e in option_closed k (all_options h k w) (subst (λ z. T (is_open z)) (option_stands k w) t)
-          at false e = let w = ltb-false k n e in let r = (o.ordering h).0 in
-              ordering_closed (k - n) (among_orderings h (k - n) (omega arith)) (subst (λ z. T (is_open z)) (ap (λ z. get_or (decisions_of n m g) z Open) (let q : k ≡ n + (k - n) = omega arith in q) ∙ ordering_stands (k - n) (omega arith)) t)
+      append : (n : ℕ) (p : ℕ → Decision) (rest : List Decision) → just_the_kept (list_of n p ++ rest) ≡ just_the_kept (list_of n p) ++ just_the_kept rest
+      append zero p rest = refl
+      append (suc n) p rest = ap (λ l. is_kept (p 0) ∷ l) (append n (λ i. p (suc i)) rest)
 
-      go : (q : Bool) → ltb x 32 ≡ q → k < cond q x (n + (x - 32)) → ⊥
-      go true e l = let h = ltb-true x 32 e in let r = (o.option h).0 in option_closed k (among_options h k l) (subst (λ z. T (is_open z)) (option_stands k (omega arith)) t)
-      go false e l = past (ltb-false x 32 e) k l t
+      alone : (n : ℕ) (a b : ℕ → Bool) → just_the_kept (list_of n (λ i. decision_of (a i) (b i))) ≡ list_of n a
+      alone zero a b = refl
+      alone (suc n) a b = ap (λ x. x ∷ just_the_kept (list_of n (λ i. decision_of (a (suc i)) (b (suc i))))) (kept_of_two (a 0) (b 0)) ∙ ap (λ l. a 0 ∷ l) (alone n (λ i. a (suc i)) (λ i. b (suc i)))
+
+  module _ (g : Given) where
+    abbrev option : ℕ → Decision
+    option i = decision_of (has g.kept i) (has g.dropped i)
+
+    abbrev ordering : ℕ → Decision
+    ordering u = decision_of (has g.kept_orderings u) (has g.dropped_orderings u)
+
+    -- what stands at the place of an option, and of an ordering
+    pub option_stands : (i : ℕ) → i < n → get_or (decisions_of chart g) i Open ≡ option i
+    unfolding decisions_of
+    option_stands i l = getD_first n option (list_of m ordering) Open i l
+
+    pub ordering_stands : (u : ℕ) → u < m → get_or (decisions_of chart g) (n + u) Open ≡ ordering u
+    unfolding decisions_of
+    ordering_stands u l = getD_second n m option ordering Open u l
+
+    module _ (x : ℕ) (o : OpenItem chart g x) where
+      open_two : (a b : Bool) → a ≡ false → b ≡ false → T (is_open (decision_of a b))
+      open_two a b e f = rw (e, f) tt
+
+      pub item_open : T (is_open (get_or (decisions_of chart g) (place n x) Open))
+      unfolding place
+      item_open = go (ltb x 32) refl
+        where
+          go : (q : Bool) → ltb x 32 ≡ q → T (is_open (get_or (decisions_of chart g) (cond q x (n + (x - 32))) Open))
+          go true e = let w = o.option (ltb-true x 32 e) in subst (λ z. T (is_open z)) (sym (option_stands x w.0)) (open_two _ _ w.1 w.2)
+          go false e = let w = o.ordering (ltb-false x 32 e) in subst (λ z. T (is_open z)) (sym (ordering_stands (x - 32) w.0)) (open_two _ _ w.1 w.2)
+
+      pub item_kept_shown : set (decisions_of chart g) (place n x) Kept ≡ decisions_of chart (with_item_kept g x)
+      unfolding decisions_of place with_item_kept
+      item_kept_shown = go (ltb x 32) refl
+        where
+          go : (q : Bool) → ltb x 32 ≡ q → set (decisions_of chart g) (cond q x (n + (x - 32))) Kept ≡ decisions_of chart (cond q (with_option_kept g x) (with_ordering_kept g (x - 32)))
+          go true e = let w = o.option (ltb-true x 32 e) in set_first n option (list_of m ordering) Kept x w.0 ∙ ap (λ z. z ++ list_of m ordering) (kept_changes n g.kept g.dropped x)
+          go false e = let w = o.ordering (ltb-false x 32 e) in set_second n m option ordering Kept (x - 32) w.0 ∙ ap (λ z. list_of n option ++ z) (kept_changes m g.kept_orderings g.dropped_orderings (x - 32))
+
+      pub item_dropped_shown : set (decisions_of chart g) (place n x) Dropped ≡ decisions_of chart (with_item_dropped g x)
+      unfolding decisions_of place with_item_dropped
+      item_dropped_shown = go (ltb x 32) refl
+        where
+          go : (q : Bool) → ltb x 32 ≡ q → set (decisions_of chart g) (cond q x (n + (x - 32))) Dropped ≡ decisions_of chart (cond q (with_option_dropped g x) (with_ordering_dropped g (x - 32)))
+          go true e = let w = o.option (ltb-true x 32 e) in set_first n option (list_of m ordering) Dropped x w.0 ∙ ap (λ z. z ++ list_of m ordering) (dropped_changes n g.kept g.dropped x w.1)
+          go false e = let w = o.ordering (ltb-false x 32 e) in set_second n m option ordering Dropped (x - 32) w.0 ∙ ap (λ z. list_of n option ++ z) (dropped_changes m g.kept_orderings g.dropped_orderings (x - 32) w.1)
+
+      -- the place is in the list
+      pub place_below : place n x < length (decisions_of chart g)
+      unfolding place decisions_of
+      place_below = go (ltb x 32) refl
+        where
+          size : length (list_of n option ++ list_of m ordering) ≡ n + m
+          size = length-append (list_of n option) (list_of m ordering) ∙ let a = length_list_of n option in let b = length_list_of m ordering in omega arith
+
+          go : (q : Bool) → ltb x 32 ≡ q → cond q x (n + (x - 32)) < length (list_of n option ++ list_of m ordering)
+          go true e = let w = o.option (ltb-true x 32 e) in let k = w.0 in let z = size in omega arith
+          go false e = let w = o.ordering (ltb-false x 32 e) in let k = w.0 in let z = size in omega arith
+
+    -- ---- what is open
+    neither_open : (a b : Bool) → not (a || b) ≡ false → T (is_open (decision_of a b)) → ⊥
+    neither_open true b e t = t
+    neither_open false true e t = t
+    neither_open false false e t = subst T e tt
+
+    option_closed : (j : ℕ) → not (has g.kept j || has g.dropped j) ≡ false → T (is_open (option j)) → ⊥
+    option_closed j = neither_open (has g.kept j) (has g.dropped j)
+
+    ordering_closed : (j : ℕ) → not (has g.kept_orderings j || has g.dropped_orderings j) ≡ false → T (is_open (ordering j)) → ⊥
+    ordering_closed j = neither_open (has g.kept_orderings j) (has g.dropped_orderings j)
+
+    pub nothing_open : ((i : ℕ) → i < n → not (has g.kept i || has g.dropped i) ≡ false) → ((u : ℕ) → u < m → not (has g.kept_orderings u || has g.dropped_orderings u) ≡ false) → open_items (decisions_of chart g) ≡ 0
+    unfolding decisions_of
+    nothing_open p q = none_open_in n option (list_of m ordering) (λ i l. option_closed i (p i l)) ∙ none_open_alone m ordering (λ u l. ordering_closed u (q u l))
+
+    -- No open item stands before item x, if none has a smaller number.
+    pub none_before_item : (x : ℕ) → OpenItem chart g x → (x < 32 → (j : ℕ) → j < x → not (has g.kept j || has g.dropped j) ≡ false)
+        → (32 ≤ x → (j : ℕ) → j < n → not (has g.kept j || has g.dropped j) ≡ false) → (32 ≤ x → (j : ℕ) → j < x - 32 → not (has g.kept_orderings j || has g.dropped_orderings j) ≡ false)
+        → (k : ℕ) → k < place n x → T (is_open (get_or (decisions_of chart g) k Open)) → ⊥
+    unfolding place
+    none_before_item x o among_options all_options among_orderings k l t = go (ltb x 32) refl l
+      where
+        past : (h : 32 ≤ x) → (k : ℕ) → k < n + (x - 32) → T (is_open (get_or (decisions_of chart g) k Open)) → ⊥
+        past h k l t = at (ltb k n) refl
+          where
+            at : (q : Bool) → ltb k n ≡ q → ⊥
+            at true e = let w = ltb-true k n e in option_closed k (all_options h k w) (subst (λ z. T (is_open z)) (option_stands k w) t)
+            at false e = let w = ltb-false k n e in let r = (o.ordering h).0 in
+                ordering_closed (k - n) (among_orderings h (k - n) (omega arith)) (subst (λ z. T (is_open z)) (ap (λ z. get_or (decisions_of chart g) z Open) (let q : k ≡ n + (k - n) = omega arith in q) ∙ ordering_stands (k - n) (omega arith)) t)
+
+        go : (q : Bool) → ltb x 32 ≡ q → k < cond q x (n + (x - 32)) → ⊥
+        go true e l = let h = ltb-true x 32 e in let r = (o.option h).0 in option_closed k (among_options h k l) (subst (λ z. T (is_open z)) (option_stands k (omega arith)) t)
+        go false e l = past (ltb-false x 32 e) k l t

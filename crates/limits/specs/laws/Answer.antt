@@ -13,20 +13,20 @@ use Rattle.rules.specs.Results.{option_limit, ordering_limit, limits_of}
 use Rattle.cells.specs.Cells.{no_limit, shown_limit}
 use Rattle.given.specs.Filled.{filled}
 use Rattle.limits.specs.Limited.{contradictory, without_contradiction, limited_as, LimitedBy}
-use Rattle.subscription.specs.Shown.{ShownBy}
+use Rattle.subscription.specs.Charted.{Charted}
 use Rattle.given.specs.laws.List.{take_list_of, drop_list_of, gives_list}
 use Rattle.limits.specs.Answer.{padded, shown_limits, limits_refused, limits_accepted, limits_answer}
 use Rattle.limits.specs.laws.Padded.{filled_padded, map_list_of, padded_same, taken_open, dropped_open}
 use Rattle.sheet.specs.Lines.{lines_of}
 use Rattle.sheet.specs.IsRecorded.{is_recorded}
-use Rattle.sheet.proofs.LinesLaws.{option_lines, ordering_lines, slot_weight, slot_ordering_weight}
-use Rattle.subscription.specs.laws.Shown.{counted_is}
+use Rattle.sheet.proofs.LinesLaws.{option_lines, ordering_lines}
+use Rattle.subscription.specs.laws.Charted.{counted_is}
 use Rattle.rules.specs.Decisions as R
 use Rattle.rules.specs.Results as R'
 use Rattle.sheet.specs.declared.answer.Refusal.TheVariants.{NotRecorded, WrongDecisions}
 use Rattle.sheet.specs.declared.decision.Choice.{Choice}
 use Rattle.given.specs.declared.sets.Given.{Given}
-use Rattle.subscription.specs.declared.slots_of_sheet.BySlot.{BySlot}
+use Rattle.chart.specs.declared.chart.Chart.{Chart}
 use Rattle.sheet.specs.declared.sheet.Sheet.{Sheet}
 use Rattle.sheet.specs.declared.decision.Decisions.{Decisions}
 use Rattle.cells.specs.declared.cells.Limit.{Limit}
@@ -71,9 +71,9 @@ module _ (s : Lines) (l : List R.Decision) where
       go false = limited_shown
 
 -- ---- the public function
-module _ (s : Sheet) (d : Decisions) (e : is_recorded s ≡ true) (r : BySlot) (g : Given) (l : Limited) (shown : ShownBy s r)
+module _ (s : Sheet) (d : Decisions) (e : is_recorded s ≡ true) (chart : Chart) (g : Given) (l : Limited) (charted : Charted s chart)
     (gives : Gives (decided_as d) s.option_count s.ordering_count g)
-    (by : LimitedBy s.option_count s.ordering_count r.firsts r.seconds s.weights s.ordering_weights r.rows g l) where
+    (by : LimitedBy chart g l) where
   abbrev k : ℕ
   k = s.option_count
 
@@ -93,8 +93,8 @@ module _ (s : Sheet) (d : Decisions) (e : is_recorded s ≡ true) (r : BySlot) (
   ordering_counts = ordering_lines s
 
   worked_out : l ≡ shown_limits k (limits_of (lines_of s) (decision_list k m d))
-  worked_out = by w c shown.shows (record { weight = slot_weight s; ordering_weight = slot_ordering_weight s }) (gives_list (lines_of s) d k m counts ordering_counts gives)
-      ∙ ap (λ z. limited_as z c) (counted_is s) ∙ limited_is_shown (lines_of s) (decision_list k m d) ∙ ap (λ z. shown_limits z (limits_of (lines_of s) (decision_list k m d))) counts
+  worked_out = by w c charted.shows.shows charted.shows.weighs (rw (charted.options, charted.orderings) (gives_list (lines_of s) d k m counts ordering_counts gives))
+      ∙ ap (λ z. limited_as z c) (rw (charted.options, charted.orderings) (counted_is s)) ∙ limited_is_shown (lines_of s) (decision_list k m d) ∙ ap (λ z. shown_limits z (limits_of (lines_of s) (decision_list k m d))) counts
 
   pub limits_told : decided_past d k m ≡ false → limits_accepted l ≡ limits_answer s d
   unfolding limits_answer

@@ -15,7 +15,7 @@ use Rattle.rules.specs.laws.search.Charged.{Charged, charged_none}
 use Rattle.rows.specs.Sets.{Holds}
 use Rattle.rows.specs.laws.Sets.{holds_at}
 use Rattle.graph.specs.Shown.{counted}
-use Rattle.half.specs.Weights.{Weighs}
+use Rattle.chart.specs.Arrays.{Weighs}
 use Rattle.numbered.specs.Items.{ends_only}
 use Rattle.numbered.specs.Shown.{ShowsKnown}
 use Rattle.residual.specs.Taken.{residual_in}

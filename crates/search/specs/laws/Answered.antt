@@ -1,6 +1,7 @@
--- From the sets that the search leaves to what it returns, and from a record to the arrays that it works on.
-use Rattle.std.specs.Prelude.{◌≡◌, refl, Bool, true, not, ◌||◌, List, ◌++◌, ℕ, ◌+◌, ◌<◌}
-use Rattle.std.proofs.Math.Path.{sym, ap}
+-- From the sets that the search leaves to what it returns, and from a chart to its record.
+use Rattle.std.specs.Prelude.{◌≡◌, refl, Bool, true, not, ◌||◌, ◌++◌, ℕ, ◌+◌, ◌<◌}
+use Rattle.chart.specs.declared.chart.Chart.{Chart}
+use Rattle.std.proofs.Math.Path.{sym, ap, subst}
 use Rattle.std.proofs.Common.{◌∙◌, arith, get_or-drop, drop_at}
 use Rattle.std.proofs.Math.Bool.{false}
 use Rattle.std.proofs.Math.ListN.{get_or, get_or-append}
@@ -15,11 +16,9 @@ use Rattle.given.specs.Given.{choice_of, undecided}
 use Rattle.given.specs.Filled.{filled}
 use Rattle.given.specs.laws.Filled.{filled_same}
 use Rattle.sheet.specs.Lines.{lines_of}
-use Rattle.sheet.proofs.LinesLaws.{option_lines, ordering_lines, slot_weight, slot_ordering_weight, recorded_proper}
-use Rattle.subscription.specs.Shown.{ShownBy}
+use Rattle.subscription.specs.Charted.{Charted}
 use Rattle.sheet.specs.declared.sheet.Sheet.{Sheet}
-use Rattle.subscription.specs.declared.slots_of_sheet.BySlot.{BySlot}
-use Rattle.keeping.specs.Arrays.{ShowsSheet, Arrays}
+use Rattle.rules.specs.Best.{AnswerTo}
 use Rattle.keeping.specs.Sets.{chosen_list}
 use Rattle.search.specs.Search.{chosen, answered, Answers, accepted, answer_in, FoundBy}
 use Rattle.search.specs.declared.found.Found.{Found}
@@ -54,32 +53,11 @@ answered_is s f =
       filled_same 64 m (λ u. choice_of (chosen (has f.kept_orderings u))) (λ u. choice_of (chosen (get_or (chosen_list n m f.kept f.kept_orderings) (n + u) false))) undecided (λ u l. ap (λ x. choice_of (chosen x)) (sym (ordering_chosen n m f.kept f.kept_orderings u l))),
     ) refl
 
--- ---- the arrays of a record that obeys the rule
-pub shows_of : (s : Sheet) (b : BySlot) → ShownBy s b → ShowsSheet (lines_of s) s.option_count s.ordering_count b.firsts b.seconds b.rows s.weights s.ordering_weights
-shows_of s b shown = record {
-  options = option_lines s;
-  orderings = ordering_lines s;
-  proper = recorded_proper s shown.recorded;
-  shows = shown.shows;
-  weighs = record { weight = slot_weight s; ordering_weight = slot_ordering_weight s };
-}
-
-pub arrays_of : (s : Sheet) (b : BySlot) → ShownBy s b → Arrays s.option_count s.ordering_count b.firsts b.seconds b.rows s.weights s.ordering_weights
-arrays_of s b shown = let R = shown.recorded in record {
-  ends = shown.ends;
-  weights = record {
-    few_options = R.few_options;
-    few_orderings = R.few_orderings;
-    weight_size = (let z = R.few_options in let k = R.lengths.weights in omega arith);
-    ordering_weight_size = (let z = R.few_orderings in let k = R.lengths.ordering_weights in omega arith);
-  };
-  lines = lines_of s;
-  of = shows_of s b shown;
-}
-
--- The arrays' answer is the sheet's.
-pub answers_of : (s : Sheet) (tolerance : ℕ) {firsts seconds rows : List ℕ}
-    → (shows : ShowsSheet (lines_of s) s.option_count s.ordering_count firsts seconds rows s.weights s.ordering_weights) (f : Found)
-    → FoundBy s.option_count s.ordering_count firsts seconds rows s.weights s.ordering_weights tolerance f
+-- The chart's answer is the sheet's.
+pub answers_of : (s : Sheet) (tolerance : ℕ) (chart : Chart) → Charted s chart → (f : Found) → FoundBy chart tolerance f
     → {r : Searched} → r ≡ accepted f s.option_count s.ordering_count → Answers s tolerance r
-answers_of s tolerance shows f by e = (answer_in s.option_count s.ordering_count f, by (lines_of s) shows, e ∙ answered_is s f)
+answers_of s tolerance chart charted f by e = (
+  answer_in s.option_count s.ordering_count f,
+  subst (λ k. AnswerTo (lines_of s) tolerance (answer_in k s.ordering_count f)) charted.options (subst (λ k. AnswerTo (lines_of s) tolerance (answer_in chart.option_count k f)) charted.orderings (by (lines_of s) charted.shows)),
+  e ∙ answered_is s f,
+)

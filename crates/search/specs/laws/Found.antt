@@ -1,5 +1,6 @@
 -- What a whole search left is an answer to the tolerance, for whatever sheet the arrays show.
 use Rattle.std.specs.Prelude.{◌≡◌, Bool, true, false, List, ◌∷◌, ◌++◌, ℕ, zero, suc, ◌+◌, ◌-◌, min}
+use Rattle.chart.specs.declared.chart.Chart.{Chart}
 use Rattle.std.proofs.Math.Path.{refl}
 use Rattle.std.proofs.Common.{sym, subst, ap, ◌∙◌}
 use native.Mathlib.Omega.{arith}
@@ -18,7 +19,7 @@ use Rattle.rules.specs.laws.search.Answers.{floor_pass_answers}
 use Rattle.rows.specs.Bits.{has}
 use Rattle.rows.specs.laws.Bits.{has_none}
 use Rattle.given.specs.declared.sets.Given.{Given}
-use Rattle.keeping.specs.Arrays.{ShowsSheet}
+use Rattle.chart.specs.Chart.{ShowsSheet}
 use Rattle.keeping.specs.Sets.{decisions_of, chosen_list, nothing_given}
 use Rattle.value.specs.Value.{BoundsAs}
 use Rattle.value.specs.laws.Whole.{fresh}
@@ -46,12 +47,18 @@ nothing_chosen n m = ap (λ l. l ++ list_of m (has 0)) (alone n) ∙ ap (λ l. n
     together (suc n) = let q : suc (n + m) ≡ suc n + m = omega arith in ap (λ l. false ∷ l) (together n) ∙ ap none_kept q
 
 -- ---- what the search left is an answer
-module _ (n m : ℕ) (firsts seconds rows ws bs : List ℕ) (tolerance : ℕ) (bounds : Bounds) (bounded : BoundsAs n m firsts seconds rows ws bs tolerance bounds)
-    (g : Given) (eg : g ≡ nothing_given) (a b : SoFar) (ea : a ≡ nothing_found bounds.floor) (done : Branched n m firsts seconds rows ws bs tolerance bounds.ceiling g a b) where
-  module _ (s : Lines) (sh : ShowsSheet s n m firsts seconds rows ws bs) where
+module _ (chart : Chart) (tolerance : ℕ) (bounds : Bounds) (bounded : BoundsAs chart tolerance bounds)
+    (g : Given) (eg : g ≡ nothing_given) (a b : SoFar) (ea : a ≡ nothing_found bounds.floor) (done : Branched chart tolerance bounds.ceiling g a b) where
+  abbrev n : ℕ
+  n = chart.option_count
+
+  abbrev m : ℕ
+  m = chart.ordering_count
+
+  module _ (s : Lines) (sh : ShowsSheet s chart) where
     finds : Finds (value_of s) (ConsistentRelaxation s) tolerance (all_open (items s)) (from_floor bounds.floor) (shown n m b)
-    finds = subst (λ z. Finds (value_of s) (ConsistentRelaxation s) tolerance z (from_floor bounds.floor) (shown n m b)) (fresh n m firsts seconds rows ws bs g eg s sh)
-        (subst (λ z. Finds (value_of s) (ConsistentRelaxation s) tolerance (decisions_of n m g) (shown n m z) (shown n m b)) ea (done.finds s sh (bounded.ceiling.above s sh)))
+    finds = subst (λ z. Finds (value_of s) (ConsistentRelaxation s) tolerance z (from_floor bounds.floor) (shown n m b)) (fresh chart g eg s sh)
+        (subst (λ z. Finds (value_of s) (ConsistentRelaxation s) tolerance (decisions_of chart g) (shown n m z) (shown n m b)) ea (done.finds s sh (bounded.ceiling.above s sh)))
 
     -- the relaxation that is left, found or not
     left : List Bool
@@ -73,7 +80,7 @@ module _ (n m : ℕ) (firsts seconds rows ws bs : List ℕ) (tolerance : ℕ) (b
     answers = floor_pass_answers s tolerance bounds.ceiling bounds.floor (shown n m b) (bounded.floor s sh) (bounded.ceiling.above s sh) finds
 
   pub found_answers : (value ceiling : ℕ) → value ≡ b.goal - 1 → ceiling ≡ min bounds.ceiling (value + tolerance)
-      → FoundBy n m firsts seconds rows ws bs tolerance (record { kept = b.kept; kept_orderings = b.kept_orderings; value = value; ceiling = ceiling })
+      → FoundBy chart tolerance (record { kept = b.kept; kept_orderings = b.kept_orderings; value = value; ceiling = ceiling })
   found_answers value ceiling ev ec s sh = subst (AnswerTo s tolerance) same (answers s sh).1
     where
       worth : value_of s (left s sh) ≡ value

@@ -13,17 +13,17 @@ use Rattle.rules.specs.Results.{sequence_of, is_consistent, numbers_in_sequence,
 use Rattle.rules.specs.Relaxation.{KeptBySlot, kept_by_slot}
 use Rattle.sequence.specs.Padded.{places_of}
 use Rattle.sequence.specs.Sequenced.{is_consistent_as, sequence_as, not_consistent, placed_as, PlacedBy}
-use Rattle.subscription.specs.Shown.{ShownBy}
+use Rattle.subscription.specs.Charted.{Charted}
 use Rattle.given.specs.laws.List.{gives_list, length_decision_list, no_open_item}
 use Rattle.sequence.specs.Answer.{sequence_refused, sequence_accepted, sequence_shown, sequence_answer}
 use Rattle.sheet.specs.Lines.{lines_of}
 use Rattle.sheet.specs.IsRecorded.{is_recorded}
 use Rattle.sheet.proofs.LinesLaws.{option_lines, ordering_lines, slot_number}
-use Rattle.subscription.specs.laws.Shown.{counted_is}
+use Rattle.subscription.specs.laws.Charted.{counted_is}
 use Rattle.rules.specs.Decisions as R
 use Rattle.rules.specs.laws.Decisions.{just_the_kept, just_the_kept_at, take_just_the_kept, drop_just_the_kept, length_just_the_kept, full_choice_is}
 use Rattle.given.specs.declared.sets.Given.{Given}
-use Rattle.subscription.specs.declared.slots_of_sheet.BySlot.{BySlot}
+use Rattle.chart.specs.declared.chart.Chart.{Chart}
 use Rattle.sequence.specs.declared.whole.Placed.{Placed}
 use Rattle.sheet.specs.declared.answer.Refusal.TheVariants.{NotRecorded, WrongDecisions, NotConsistent}
 use Rattle.sheet.specs.declared.sheet.Sheet.{Sheet}
@@ -83,9 +83,9 @@ sequence_open_within s d e f g = rw (e, f, g) refl
 
 module _ (s : Sheet) (d : Decisions) (e : is_recorded s ≡ true)
     (past : decided_past d s.option_count s.ordering_count ≡ false) (open_items : open_within d s.option_count s.ordering_count ≡ false)
-    (r : BySlot) (g : Given) (p : Placed) (shown : ShownBy s r)
+    (chart : Chart) (g : Given) (p : Placed) (charted : Charted s chart)
     (gives : Gives (decided_as d) s.option_count s.ordering_count g)
-    (by : PlacedBy s.option_count s.ordering_count r.firsts r.seconds s.numbers r.rows g p) where
+    (by : PlacedBy chart s.numbers g p) where
   abbrev n : ℕ
   n = s.option_count
 
@@ -107,13 +107,13 @@ module _ (s : Sheet) (d : Decisions) (e : is_recorded s ≡ true)
   size : length list ≡ items (lines_of s)
   size = length_decision_list n m d ∙ rw (counts, ordering_counts) refl
 
-  gives_slots : Gives (decided_by_slot (lines_of s) list) n m g
-  gives_slots = gives_list (lines_of s) d n m counts ordering_counts gives
+  gives_slots : Gives (decided_by_slot (lines_of s) list) chart.option_count chart.ordering_count g
+  gives_slots = rw (charted.options, charted.orderings) (gives_list (lines_of s) d n m counts ordering_counts gives)
 
   placed_out : p ≡ placed_as (subscription (lines_of s)) (kept_by_slot (lines_of s) (just_the_kept list))
-  placed_out = by (subscription (lines_of s)) (kept_by_slot (lines_of s) (just_the_kept list)) shown.shows (slot_number s)
+  placed_out = by (subscription (lines_of s)) (kept_by_slot (lines_of s) (just_the_kept list)) charted.shows.shows (rw (charted.options) (slot_number s))
       (record { option = holds_same gives_slots.kept (λ i l. sym (option_kept_told (lines_of s) list full size i)); ordering = holds_same gives_slots.kept_orderings (λ u l. sym (ordering_kept_told (lines_of s) list full size u)) })
-      ∙ ap (λ z. placed_as z (kept_by_slot (lines_of s) (just_the_kept list))) (counted_is s)
+      ∙ ap (λ z. placed_as z (kept_by_slot (lines_of s) (just_the_kept list))) (rw (charted.options, charted.orderings) (counted_is s))
 
   answered : sequence_answer s d ≡ sequence_shown (sequence_of (lines_of s) list)
   unfolding sequence_answer

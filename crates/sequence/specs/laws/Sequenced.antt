@@ -24,14 +24,33 @@ use Rattle.sequence.specs.Padded.{places_of}
 use Rattle.sequence.specs.laws.Padded.{written_padded}
 use Rattle.sequence.specs.Sequenced.{is_consistent_as, sequence_as, not_consistent, placed_as, Keeps, PlacedBy}
 use Rattle.sequence.specs.laws.Same.{numbers_same, few_numbers}
+use Rattle.chart.specs.declared.chart.Chart.{Chart}
 use Rattle.given.specs.declared.sets.Given.{Given}
 use Rattle.sequence.specs.declared.whole.Placed.{Placed}
 use Rattle.sheet.specs.declared.count.Number.{Number}
 
-module _ (n m : ℕ) (firsts seconds numbers rows : List ℕ) (g : Given) (ends : EndsAreSlots n m firsts seconds) (between edges paths : List ℕ)
-    (is_between : BetweenKept rows g.kept n between)
-    (is_edges : WithOrderings between g.kept_orderings firsts seconds m edges)
-    (is_paths : JoinedThroughAll edges g.kept n n paths) where
+module _ (chart : Chart) (numbers : List ℕ) (g : Given) (between edges paths : List ℕ)
+    (is_between : BetweenKept chart.rows g.kept chart.option_count between)
+    (is_edges : WithOrderings between g.kept_orderings chart.firsts chart.seconds chart.ordering_count edges)
+    (is_paths : JoinedThroughAll edges g.kept chart.option_count chart.option_count paths) where
+  abbrev n : ℕ
+  n = chart.option_count
+
+  abbrev m : ℕ
+  m = chart.ordering_count
+
+  abbrev firsts : List ℕ
+  firsts = chart.firsts
+
+  abbrev seconds : List ℕ
+  seconds = chart.seconds
+
+  abbrev rows : List ℕ
+  rows = chart.rows
+
+  abbrev ends : EndsAreSlots chart.option_count chart.ordering_count chart.firsts chart.seconds
+  ends = chart.ends
+
   module _ (v : Subscription) (c : KeptBySlot) (shows : Shows v n m firsts seconds rows) (numbered : (i : ℕ) → i < n → v.number i ≡ get_or numbers i 0) (keeps : Keeps c n m g) where
     abbrev s : Subscription
     s = counted n m v
@@ -72,11 +91,11 @@ module _ (n m : ℕ) (firsts seconds numbers rows : List ℕ) (g : Given) (ends 
         ∙ numbers_same n (number_at numbers) v.number (cell edges) (precedes s c) (λ i l. sym (numbered i l)) edge_is n (kept_slots s c) within
 
   -- ---- the three ways out
-  pub lacks_placed : {x : Bool} {r : Placed} → x ≡ some_below m (lacks g.kept g.kept_orderings firsts seconds) → x ≡ true → r ≡ not_consistent → PlacedBy n m firsts seconds numbers rows g r
+  pub lacks_placed : {x : Bool} {r : Placed} → x ≡ some_below m (lacks g.kept g.kept_orderings firsts seconds) → x ≡ true → r ≡ not_consistent → PlacedBy chart numbers g r
   unfolding placed_as is_consistent_as
   lacks_placed {x} {r} e f q v c shows numbered keeps = q ∙ rw (sym (lacks_is v c shows numbered keeps) ∙ sym e ∙ f) refl
 
-  pub cycle_placed : {y : Bool} {r : Placed} → y ≡ some_below n (λ i. cell paths i i) → y ≡ true → r ≡ not_consistent → PlacedBy n m firsts seconds numbers rows g r
+  pub cycle_placed : {y : Bool} {r : Placed} → y ≡ some_below n (λ i. cell paths i i) → y ≡ true → r ≡ not_consistent → PlacedBy chart numbers g r
   unfolding placed_as is_consistent_as
   cycle_placed {y} {r} e f q v c shows numbered keeps = q ∙ rw (sym (acyclic_is v c shows numbered keeps), ← e, f) (go (some_below m (lacks_an_option (counted n m v) c)))
     where
@@ -85,7 +104,7 @@ module _ (n m : ℕ) (firsts seconds numbers rows : List ℕ) (g : Given) (ends 
       go false = refl
 
   pub sequence_placed : {x y : Bool} {l : List Number} → x ≡ some_below m (lacks g.kept g.kept_orderings firsts seconds) → x ≡ false → y ≡ some_below n (λ i. cell paths i i) → y ≡ false
-      → l ≡ written (replicate 32 (number 0)) 0 (numbers_placed edges numbers n n g.kept) → PlacedBy n m firsts seconds numbers rows g (record { consistent = true; places = l })
+      → l ≡ written (replicate 32 (number 0)) 0 (numbers_placed edges numbers n n g.kept) → PlacedBy chart numbers g (record { consistent = true; places = l })
   unfolding placed_as is_consistent_as numbers_placed
   sequence_placed {x} {y} {l} ex fx ey fy el v c shows numbered keeps = rw (sym (lacks_is v c shows numbered keeps) ∙ sym ex ∙ fx, sym (acyclic_is v c shows numbered keeps), ← ey, fy) (ap (λ z. record { consistent = true; places = z }) places_are)
     where

@@ -1,7 +1,10 @@
 -- What forced decisions come to: an end, or decisions that are left.
 use Rattle.std.specs.Prelude.{◌≡◌, Bool, true, false, not, List, ℕ, ◌-◌, ◌≤◌, ◌<◌, length, T}
+use Rattle.chart.specs.declared.chart.Chart.{Chart}
 use Rattle.std.proofs.Common.{sym, subst, ap, ◌∙◌, T_not}
 use native.Mathlib.Omega.{arith}
+use Rattle.std.proofs.Props.{props}
+use mathlib.Core.Logic.{∥∥₁_elim}
 use Rattle.rules.specs.Lines.{Lines}
 use Rattle.rules.specs.Subscription.{Subscription, subscription, items}
 use Rattle.rules.specs.Relaxation.{kept_by_slot, ConsistentRelaxation, value_of}
@@ -23,18 +26,24 @@ use Rattle.half.specs.laws.Shown.{K_is, M_less_D_is}
 use Rattle.given.specs.declared.sets.Given.{Given}
 use Rattle.forced.specs.declared.forcing.Forced.{Forced}
 use Rattle.half.specs.declared.opened.Half.{Half}
-use Rattle.keeping.specs.Arrays.{ShowsSheet, Arrays}
+use Rattle.chart.specs.Chart.{ShowsSheet}
 use Rattle.keeping.specs.Sets.{decisions_of, Apart, sets_of}
 use Rattle.settle.specs.Settled.{SettledAs}
 use Rattle.keeping.specs.laws.Shown.{size_of, counted_is, forced_as, forced_shown}
 use Rattle.keeping.specs.laws.Apart.{forced_apart}
 use Rattle.settle.specs.declared.settling.Settled.{Settled}
 
-module _ (n m : ℕ) (firsts seconds rows ws bs : List ℕ) (arrays : Arrays n m firsts seconds rows ws bs) (want : ℕ) (g : Given) (apart : Apart n m g) (f : Forced) (by : ForcedBy n m firsts seconds rows g f) where
-  abbrev d : List Decision
-  d = decisions_of n m g
+module _ (chart : Chart) (want : ℕ) (g : Given) (apart : Apart chart g) (f : Forced) (by : ForcedBy chart g f) where
+  abbrev n : ℕ
+  n = chart.option_count
 
-  module _ (s : Lines) (sh : ShowsSheet s n m firsts seconds rows ws bs) where
+  abbrev m : ℕ
+  m = chart.ordering_count
+
+  abbrev d : List Decision
+  d = decisions_of chart g
+
+  module _ (s : Lines) (sh : ShowsSheet s chart) where
     abbrev v : Subscription
     v = subscription s
 
@@ -46,7 +55,7 @@ module _ (n m : ℕ) (firsts seconds rows ws bs : List ℕ) (arrays : Arrays n m
     size = size_of s n m sh.options sh.orderings (λ i. decision_of (has g.kept i) (has g.dropped i)) (λ u. decision_of (has g.kept_orderings u) (has g.dropped_orderings u))
 
     fa : ForcedAs v b f
-    fa = forced_as s sh g apart f by
+    fa = forced_as chart s sh g apart f by
 
     counted_forced : ForcedAs (counted n m v) b f
     counted_forced = subst (λ z. ForcedAs z b f) (sym (counted_is s n m sh.options sh.orderings)) fa
@@ -54,12 +63,12 @@ module _ (n m : ℕ) (firsts seconds rows ws bs : List ℕ) (arrays : Arrays n m
     pub fine : f.contradiction ≡ false → NoContradiction v b
     fine e = no_contradiction_out v b (on_the_sheet s d size sh.proper) (subst (λ x. T (not x)) (sym (sym fa.contradicts ∙ e)) tt)
 
-    module _ (h : Half) (half : HalfDecidedAs f n m ws bs h) where
+    module _ (h : Half) (half : HalfDecidedAs chart f h) where
       pub lower_is : h.lower ≡ K v b
-      lower_is = K_is v b n m ws bs sh.weighs f h counted_forced half ∙ ap (λ z. K z b) (counted_is s n m sh.options sh.orderings)
+      lower_is = K_is v b chart sh.weighs f h counted_forced half ∙ ap (λ z. K z b) (counted_is s n m sh.options sh.orderings)
 
       pub upper_is : h.upper ≡ M v b - D v b
-      upper_is = M_less_D_is v b n m ws bs sh.weighs f h counted_forced half ∙ ap (λ z. M z b - D z b) (counted_is s n m sh.options sh.orderings)
+      upper_is = M_less_D_is v b chart sh.weighs f h counted_forced half ∙ ap (λ z. M z b - D z b) (counted_is s n m sh.options sh.orderings)
 
       -- no consistent relaxation that agrees is worth more than the upper limit
       pub upper_holds : (r : List Bool) → ConsistentRelaxation s r → Agrees d r → value_of s r ≤ h.upper
@@ -68,32 +77,32 @@ module _ (n m : ℕ) (firsts seconds rows ws bs : List ℕ) (arrays : Arrays n m
 
   -- ---- an end
   abbrev Over : Type 0
-  Over = (s : Lines) → ShowsSheet s n m firsts seconds rows ws bs → (r : List Bool) → ConsistentRelaxation s r → Agrees d r → value_of s r < want
+  Over = (s : Lines) → ShowsSheet s chart → (r : List Bool) → ConsistentRelaxation s r → Agrees d r → value_of s r < want
 
-  pub over_settles : (x : Settled) → x.over ≡ true → Over → SettledAs n m firsts seconds rows ws bs want g x
+  pub over_settles : (x : Settled) → x.over ≡ true → Over → SettledAs chart want g x
   over_settles x e h = record { over = λ _. h; left = λ q. absurd (subst T (sym e ∙ q) tt) }
 
-  pub contradiction_settles : (x : Settled) → x.over ≡ true → f.contradiction ≡ true → SettledAs n m firsts seconds rows ws bs want g x
+  pub contradiction_settles : (x : Settled) → x.over ≡ true → f.contradiction ≡ true → SettledAs chart want g x
   contradiction_settles x q e = over_settles x q (λ s sh r ok ag.
       absurd (T_not (contradiction (v s sh) (b s sh)) (no_contradiction_in (v s sh) (b s sh) (no_contradiction (v s sh) (b s sh) (kept_by_slot s r) (consistent_by_slot s r ok) (agrees_by_slot s d r ag))) (subst T (sym (sym (fa s sh).contradicts ∙ e)) tt)))
 
-  module _ (h : Half) (half : HalfDecidedAs f n m ws bs h) (e : f.contradiction ≡ false) where
-    pub limit_settles : (x : Settled) → x.over ≡ true → h.upper < want → SettledAs n m firsts seconds rows ws bs want g x
+  module _ (h : Half) (half : HalfDecidedAs chart f h) (e : f.contradiction ≡ false) where
+    pub limit_settles : (x : Settled) → x.over ≡ true → h.upper < want → SettledAs chart want g x
     limit_settles x q l = over_settles x q (λ s sh r ok ag. let k = upper_holds s sh h half r ok ag in omega arith)
 
     -- ---- the forced decisions are left
-    pub forced_settles : SettledAs n m firsts seconds rows ws bs want g (record { over = false; given = sets_of f; open_options = h.open_options; open_orderings = h.open_orderings; lower = h.lower })
+    pub forced_settles : SettledAs chart want g (record { over = false; given = sets_of f; open_options = h.open_options; open_orderings = h.open_orderings; lower = h.lower })
     forced_settles = record {
       over = λ q. absurd (subst T (sym q) tt);
       left = λ _. record {
-        apart = forced_apart n m firsts seconds rows ws bs arrays g apart f by e;
+        apart = forced_apart chart g apart f by e;
         options = half.options;
         orderings = half.orderings;
-        no_more_open = (let s = arrays.lines in let sh = arrays.of in subst (λ z. open_items z ≤ open_items d) (forced_shown s sh g apart f by) (forcing_opens_nothing s sh.proper d (size s sh) (fine s sh e)));
+        no_more_open = ∥∥₁_elim chart.of_a_sheet (hlevel props) (λ a. let s = a.lines in let sh = a.show in subst (λ z. open_items z ≤ open_items d) (forced_shown chart s sh g apart f by) (forcing_opens_nothing s sh.proper d (size s sh) (fine s sh e)));
         small = half.roomy.lower;
-        reduces = λ s sh. subst (Reduces (value_of s) (ConsistentRelaxation s) 0 want d) (forced_shown s sh g apart f by)
+        reduces = λ s sh. subst (Reduces (value_of s) (ConsistentRelaxation s) 0 want d) (forced_shown chart s sh g apart f by)
             (reduces_forced (value_of s) (ConsistentRelaxation s) 0 want d (forced s d) (forced_agrees s sh.proper d (size s sh) (fine s sh e)) (agrees_with_forced s sh.proper d (size s sh)));
-        consistent = λ s sh. subst (λ z. ConsistentRelaxation s (just_the_kept z)) (forced_shown s sh g apart f by) (least_is_consistent s sh.proper d (size s sh) (fine s sh e));
-        worth = λ s sh. ap (λ z. value_of s (just_the_kept z)) (sym (forced_shown s sh g apart f by)) ∙ least_is_worth_K s sh.proper d (size s sh) (fine s sh e) ∙ sym (lower_is s sh h half);
+        consistent = λ s sh. subst (λ z. ConsistentRelaxation s (just_the_kept z)) (forced_shown chart s sh g apart f by) (least_is_consistent s sh.proper d (size s sh) (fine s sh e));
+        worth = λ s sh. ap (λ z. value_of s (just_the_kept z)) (sym (forced_shown chart s sh g apart f by)) ∙ least_is_worth_K s sh.proper d (size s sh) (fine s sh e) ∙ sym (lower_is s sh h half);
       };
     }

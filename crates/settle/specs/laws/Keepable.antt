@@ -1,5 +1,6 @@
 -- What the code keeps beside the forced items may be kept, on every sheet that the arrays show.
 use Rattle.std.specs.Prelude.{◌≡◌, refl, Bool, not, ◌||◌, ◌⊎◌, List, ℕ, ◌+◌, ◌-◌, ◌≤◌, ◌<◌, T}
+use Rattle.chart.specs.declared.chart.Chart.{Chart}
 use Rattle.std.proofs.Math.Path.{sym, ap}
 use Rattle.std.proofs.Common.{subst, ◌∙◌, inl, inr}
 use Rattle.std.proofs.Math.Bool.{true, false, cond}
@@ -25,7 +26,7 @@ use Rattle.graph.specs.Shown.{counted}
 use Rattle.forced.specs.Forced.{ForcedAs, ForcedBy}
 use Rattle.half.specs.Half.{HalfDecidedAs}
 use Rattle.numbered.specs.Items.{numbered, Named}
-use Rattle.residual.specs.Taken.{residual_in}
+use Rattle.residual.specs.Left.{residual_of}
 use Rattle.numbered.specs.laws.Items.{numbered_option, numbered_ordering}
 use Rattle.numbered.specs.Shown.{ShowsKnown}
 use Rattle.numbered.specs.laws.Items.{shows_known}
@@ -39,7 +40,7 @@ use Rattle.given.specs.declared.sets.Given.{Given}
 use Rattle.forced.specs.declared.forcing.Forced.{Forced}
 use Rattle.half.specs.declared.opened.Half.{Half}
 use Rattle.bound.specs.declared.charging.Charged.{Charged}
-use Rattle.keeping.specs.Arrays.{ShowsSheet, Arrays}
+use Rattle.chart.specs.Chart.{ShowsSheet}
 use Rattle.keeping.specs.Sets.{decisions_of, Apart, sets_of}
 use Rattle.keeping.specs.Keeping.{MayKeep, needed, loose, KeptMore}
 use Rattle.keeping.specs.laws.Shown.{size_of, counted_is, forced_as, forced_shown, option_stands, ordering_stands}
@@ -58,155 +59,158 @@ has_it false t = absurd t
 turned : {known after : List ℕ} {n : ℕ} → n ≤ 32 → C.Transposed known n n after → Transposed known after n
 turned {known} {after} {n} few w = record { at = λ p q l k. w.at q p (omega arith) ∙ rw (lt-ltb q n k, lt-ltb p n l) refl }
 
--- ---- what is charged
-module _ (n m : ℕ) (firsts seconds rows ws bs : List ℕ) (arrays : Arrays n m firsts seconds rows ws bs) (want : ℕ) (g : Given) (apart : Apart n m g) (f : Forced) (by : ForcedBy n m firsts seconds rows g f)
-    (h : Half) (half : HalfDecidedAs f n m ws bs h) (fine : f.contradiction ≡ false) (c : Charged) (bounded : BoundedAs f.known firsts seconds n m ws bs h.open_options h.open_orderings c)
-    (s : Lines) (sh : ShowsSheet s n m firsts seconds rows ws bs) where
-  abbrev d₀ : List Decision
-  d₀ = decisions_of n m g
+module _ (chart : Chart) (want : ℕ) (g : Given) (apart : Apart chart g) (f : Forced) (by : ForcedBy chart g f)
+    (h : Half) (half : HalfDecidedAs chart f h) (fine : f.contradiction ≡ false) (c : Charged) (bounded : BoundedAs chart h.known h.open_options h.open_orderings c) where
+  abbrev n : ℕ
+  n = chart.option_count
 
-  abbrev b₀ : DecidedBySlot
-  b₀ = decided_by_slot s d₀
+  abbrev m : ℕ
+  m = chart.ordering_count
 
-  same : counted n m (subscription s) ≡ subscription s
-  same = counted_is s n m sh.options sh.orderings
+  -- ---- what is charged
+  module _ (s : Lines) (sh : ShowsSheet s chart) where
+    abbrev d₀ : List Decision
+    d₀ = decisions_of chart g
 
-  fa : ForcedAs (counted n m (subscription s)) b₀ f
-  fa = subst (λ z. ForcedAs z b₀ f) (sym same) (forced_as s sh g apart f by)
+    abbrev b₀ : DecidedBySlot
+    b₀ = decided_by_slot s d₀
 
-  pub no_contradiction_here : T (not (contradiction (subscription s) b₀))
-  no_contradiction_here = subst (λ z. T (not z)) (sym (sym (forced_as s sh g apart f by).contradicts ∙ fine)) tt
+    same : counted n m (subscription s) ≡ subscription s
+    same = counted_is s n m sh.options sh.orderings
 
-  shows : ShowsKnown (subscription s) b₀ n m f.known firsts seconds
-  shows = shows_known arrays.ends sh.shows fa.known
+    fa : ForcedAs (counted n m (subscription s)) b₀ f
+    fa = subst (λ z. ForcedAs z b₀ f) (sym same) (forced_as chart s sh g apart f by)
 
-  -- it is charged on this sheet
-  pub charged_here : R.Charged (subscription s) b₀ c.charged (residual_in c.left_options c.left_orderings)
-  charged_here = subst (λ z. R.Charged z b₀ c.charged (residual_in c.left_options c.left_orderings)) same
-      (bounded.charged (subscription s) b₀ shows sh.weighs (open_options_hold (subscription s) b₀ n m ws bs f h fa half) (open_orderings_hold (subscription s) b₀ n m ws bs f h fa half))
+    pub no_contradiction_here : T (not (contradiction (subscription s) b₀))
+    no_contradiction_here = subst (λ z. T (not z)) (sym (sym (forced_as chart s sh g apart f by).contradicts ∙ fine)) tt
 
-  -- so no relaxation that agrees is worth more than what is left of the limit
-  pub charged_limit : (r : List Bool) → ConsistentRelaxation s r → Agrees d₀ r → value_of s r + c.charged ≤ h.upper
-  charged_limit r ok ag = let a = size n m firsts seconds rows ws bs arrays want g apart f by s sh in
-      let p = charged_limit_holds s sh.proper 0 d₀ a c.charged (residual_in c.left_options c.left_orderings) charged_here r ok ag in
-      let q = upper_is n m firsts seconds rows ws bs arrays want g apart f by s sh h half in omega arith
+    shows : ShowsKnown (subscription s) b₀ n m h.known chart.firsts chart.seconds
+    shows = subst (λ z. ShowsKnown (subscription s) b₀ n m z chart.firsts chart.seconds) (sym half.knows) (shows_known chart.ends sh.shows fa.known)
 
--- ---- what is kept besides
-module _ (n m : ℕ) (firsts seconds rows ws bs : List ℕ) (arrays : Arrays n m firsts seconds rows ws bs) (want : ℕ) (g : Given) (apart : Apart n m g) (f : Forced) (by : ForcedBy n m firsts seconds rows g f)
-    (h : Half) (half : HalfDecidedAs f n m ws bs h) (fine : f.contradiction ≡ false) (after : List ℕ) (turn : C.Transposed f.known n n after)
-    (c : Charged) (bounded : BoundedAs f.known firsts seconds n m ws bs h.open_options h.open_orderings c) (low : want + c.charged ≤ h.upper)
-    (spare : ℕ) (es : spare ≡ h.upper - want - c.charged) (k : More)
-    (kept : KeptMore f.known after firsts seconds n m h.open_options h.open_orderings c.left_options c.left_orderings spare (sets_of f) k) where
-  abbrev d : List Decision
-  d = decisions_of n m g
+    -- it is charged on this sheet
+    pub charged_here : R.Charged (subscription s) b₀ c.charged (residual_of c.left)
+    charged_here = subst (λ z. R.Charged z b₀ c.charged (residual_of c.left)) same
+        (bounded.charged (subscription s) b₀ shows sh.weighs (open_options_hold (subscription s) b₀ chart f h fa half) (open_orderings_hold (subscription s) b₀ chart f h fa half))
 
-  abbrev e : List Decision
-  e = decisions_of n m k.given
+    -- so no relaxation that agrees is worth more than what is left of the limit
+    pub charged_limit : (r : List Bool) → ConsistentRelaxation s r → Agrees d₀ r → value_of s r + c.charged ≤ h.upper
+    charged_limit r ok ag = let a = size chart want g apart f by s sh in
+        let p = charged_limit_holds s sh.proper 0 d₀ a c.charged (residual_of c.left) charged_here r ok ag in
+        let q = upper_is chart want g apart f by s sh h half in omega arith
 
-  abbrev r : Residual
-  r = residual_in c.left_options c.left_orderings
+  -- ---- what is kept besides
+  module _ (after : List ℕ) (turn : C.Transposed h.known n n after) (low : want + c.charged ≤ h.upper)
+      (spare : ℕ) (es : spare ≡ h.upper - want - c.charged) (k : More) (kept : KeptMore chart h after c.left spare (sets_of f) k) where
+    abbrev d : List Decision
+    d = decisions_of chart g
 
-  module _ (s : Lines) (sh : ShowsSheet s n m firsts seconds rows ws bs) where
-    abbrev v : Subscription
-    v = subscription s
+    abbrev e : List Decision
+    e = decisions_of chart k.given
 
-    abbrev b : DecidedBySlot
-    b = decided_by_slot s d
+    abbrev r : Residual
+    r = residual_of c.left
 
-    abbrev w : Subscription
-    w = counted n m v
+    module _ (s : Lines) (sh : ShowsSheet s chart) where
+      abbrev v : Subscription
+      v = subscription s
 
-    opens : Opens v b n m firsts seconds h.open_options h.open_orderings kept.begins kept.ends
-    opens = record { options = open_options_hold v b n m ws bs f h (fa n m firsts seconds rows ws bs arrays want g apart f by h half fine c bounded s sh) half; orderings = open_orderings_hold v b n m ws bs f h (fa n m firsts seconds rows ws bs arrays want g apart f by h half fine c bounded s sh) half; begin = kept.begin; end = kept.end }
+      abbrev b : DecidedBySlot
+      b = decided_by_slot s d
 
-    -- what may be kept by the arrays may be kept on the sheet
-    keepable : (x : ℕ) → Named n m x → T (L.item_open w b (numbered x)) → MayKeep f.known after firsts seconds n m h.open_options kept.begins kept.ends c.left_options c.left_orderings spare x
-        → Keepable s sh.proper 0 d (size n m firsts seconds rows ws bs arrays want g apart f by s sh) want (numbered x)
-    keepable x named o (needed l) = K.needed c.charged r (charged_here n m firsts seconds rows ws bs arrays want g apart f by h half fine c bounded s sh)
-        (let p = held_same v b n m f.known firsts seconds (shows n m firsts seconds rows ws bs arrays want g apart f by h half fine c bounded s sh) r (numbered x) ∙ ap (λ z. held z r (numbered x)) (same n m firsts seconds rows ws bs arrays want g apart f by h half fine c bounded s sh) in
-        let q = upper_is n m firsts seconds rows ws bs arrays want g apart f by s sh h half in
-        let fits = charged_fits s sh.proper 0 d (size n m firsts seconds rows ws bs arrays want g apart f by s sh) (no_contradiction_here n m firsts seconds rows ws bs arrays want g apart f by h half fine c bounded s sh) c.charged r (charged_here n m firsts seconds rows ws bs arrays want g apart f by h half fine c bounded s sh) in omega arith)
-    keepable x named o (loose y) = K.loose_item (subst (λ z. T (L.loose z b (numbered x))) (same n m firsts seconds rows ws bs arrays want g apart f by h half fine c bounded s sh)
-        (loose_told v b n m f.known firsts seconds (shows n m firsts seconds rows ws bs arrays want g apart f by h half fine c bounded s sh) h.open_options h.open_orderings kept.begins kept.ends opens x named after (turned arrays.ends.few_options turn) o y))
+      abbrev w : Subscription
+      w = counted n m v
 
-    -- ---- place by place
-    -- the forced decisions, by the sets
-    forced_is : forced s d ≡ decisions_of n m (sets_of f)
-    forced_is = forced_shown s sh g apart f by
+      opens : Opens v b n m chart.firsts chart.seconds h.open_options h.open_orderings kept.begins kept.ends
+      opens = record { options = open_options_hold v b chart f h (fa s sh) half; orderings = open_orderings_hold v b chart f h (fa s sh) half; begin = kept.begin; end = kept.end }
 
-    -- what an open option's slot shows, and an open ordering's
-    option_is_open : (i : ℕ) → i < n → T (has h.open_options i) → T (is_open (decision_of (has f.kept i) (has f.dropped i)))
-    option_is_open i l t = go (has f.kept i) (has f.dropped i) (subst T (holds_at half.options i l) t)
-      where
-        go : (a b : Bool) → T (not (a || b)) → T (is_open (decision_of a b))
-        go true b t = absurd t
-        go false true t = absurd t
-        go false false t = tt
+      -- what may be kept by the arrays may be kept on the sheet
+      keepable : (x : ℕ) → Named n m x → T (L.item_open w b (numbered x)) → MayKeep chart h.known after h.open_options kept.begins kept.ends c.left spare x
+          → Keepable s sh.proper 0 d (size chart want g apart f by s sh) want (numbered x)
+      keepable x named o (needed l) = K.needed c.charged r (charged_here s sh)
+          (let p = held_same v b n m h.known chart.firsts chart.seconds (shows s sh) r (numbered x) ∙ ap (λ z. held z r (numbered x)) (same s sh) in
+          let q = upper_is chart want g apart f by s sh h half in
+          let fits = charged_fits s sh.proper 0 d (size chart want g apart f by s sh) (no_contradiction_here s sh) c.charged r (charged_here s sh) in omega arith)
+      keepable x named o (loose y) = K.loose_item (subst (λ z. T (L.loose z b (numbered x))) (same s sh)
+          (loose_told v b n m h.known chart.firsts chart.seconds (shows s sh) h.open_options h.open_orderings kept.begins kept.ends opens x named after (turned chart.ends.few_options turn) o y))
 
-    ordering_is_open : (u : ℕ) → u < m → T (has h.open_orderings u) → T (is_open (decision_of (has f.kept_orderings u) (has f.dropped_orderings u)))
-    ordering_is_open u l t = go (has f.kept_orderings u) (has f.dropped_orderings u) (subst T (holds_at half.orderings u l) t)
-      where
-        go : (a b : Bool) → T (not (a || b)) → T (is_open (decision_of a b))
-        go true b t = absurd t
-        go false true t = absurd t
-        go false false t = tt
+      -- ---- place by place
+      -- the forced decisions, by the sets
+      forced_is : forced s d ≡ decisions_of chart (sets_of f)
+      forced_is = forced_shown chart s sh g apart f by
 
-    -- a place of the list, whether option or ordering: as forced, or kept too
-    at_place : (p : ℕ) (was now dropped : Bool) (x : Item) → get_or e p Open ≡ decision_of now dropped → get_or (forced s d) p Open ≡ decision_of was dropped → item_at s p ≡ x
-        → (T was → T now) → (T now → T was ⊎ (T (is_open (decision_of was dropped)) × Keepable s sh.proper 0 d (size n m firsts seconds rows ws bs arrays want g apart f by s sh) want x))
-        → AsForcedOrKept s sh.proper 0 d (size n m firsts seconds rows ws bs arrays want g apart f by s sh) want e p
-    at_place p true true dropped x q z i keeps only = as_forced (q ∙ sym z)
-    at_place p true false dropped x q z i keeps only = absurd (keeps tt)
-    at_place p false false dropped x q z i keeps only = as_forced (q ∙ sym z)
-    at_place p false true dropped x q z i keeps only = go (only tt)
-      where
-        go : ⊥ ⊎ (T (is_open (decision_of false dropped)) × Keepable s sh.proper 0 d (size n m firsts seconds rows ws bs arrays want g apart f by s sh) want x)
-            → AsForcedOrKept s sh.proper 0 d (size n m firsts seconds rows ws bs arrays want g apart f by s sh) want e p
-        go (inl t) = absurd t
-        go (inr (o, y)) = kept_too q (subst (λ y. T (is_open y)) (sym z) o) (subst (λ y. Keepable s sh.proper 0 d (size n m firsts seconds rows ws bs arrays want g apart f by s sh) want y) (sym i) y)
-
-    module _ (p : ℕ) where
-      -- an option
-      option_place : p < n → AsForcedOrKept s sh.proper 0 d (size n m firsts seconds rows ws bs arrays want g apart f by s sh) want e p
-      unfolding item_at
-      option_place l = at_place p (has f.kept p) (has k.given.kept p) (has f.dropped p) (numbered p)
-          (option_stands n m k.given p l ∙ ap (λ z. decision_of (has k.given.kept p) (has z p)) kept.dropped)
-          (ap (λ z. get_or z p Open) forced_is ∙ option_stands n m (sets_of f) p l)
-          (ap (λ z. cond z (option p) (ordering (p - length s.options))) (lt-ltb p (length s.options) (let q = sh.options in omega arith)) ∙ sym (numbered_option p (let q = arrays.ends.few_options in omega arith)))
-          (kept.option.keeps p) (λ t. go (kept.option.only p t))
+      -- what an open option's slot shows, and an open ordering's
+      option_is_open : (i : ℕ) → i < n → T (has h.open_options i) → T (is_open (decision_of (has f.kept i) (has f.dropped i)))
+      option_is_open i l t = go (has f.kept i) (has f.dropped i) (subst T (holds_at half.options i l) t)
         where
-          named : Named n m p
-          named = record { option = λ _. l; ordering = λ k. (let q = arrays.ends.few_options in absurd (omega arith)) }
+          go : (a b : Bool) → T (not (a || b)) → T (is_open (decision_of a b))
+          go true b t = absurd t
+          go false true t = absurd t
+          go false false t = tt
 
-          go : T (has f.kept p) ⊎ ((p < n) × T (has h.open_options p) × MayKeep f.known after firsts seconds n m h.open_options kept.begins kept.ends c.left_options c.left_orderings spare p)
-              → T (has f.kept p) ⊎ (T (is_open (decision_of (has f.kept p) (has f.dropped p))) × Keepable s sh.proper 0 d (size n m firsts seconds rows ws bs arrays want g apart f by s sh) want (numbered p))
-          go (inl t) = inl t
-          go (inr (_, t, y)) = inr (option_is_open p l t, keepable p named (subst (λ z. T (L.item_open w b z)) (sym (numbered_option p (let q = arrays.ends.few_options in omega arith))) (subst T (holds_at opens.options p l) t)) y)
-
-      -- an ordering
-      ordering_place : (u : ℕ) → u < m → p ≡ n + u → AsForcedOrKept s sh.proper 0 d (size n m firsts seconds rows ws bs arrays want g apart f by s sh) want e p
-      unfolding item_at
-      ordering_place u l q = at_place p (has f.kept_orderings u) (has k.given.kept_orderings u) (has f.dropped_orderings u) (numbered (32 + u))
-          (ap (λ z. get_or e z Open) q ∙ ordering_stands n m k.given u l ∙ ap (λ z. decision_of (has k.given.kept_orderings u) (has z u)) kept.dropped_orderings)
-          (ap (λ z. get_or z p Open) forced_is ∙ ap (λ z. get_or (decisions_of n m (sets_of f)) z Open) q ∙ ordering_stands n m (sets_of f) u l)
-          (ap (λ z. cond z (option p) (ordering (p - length s.options))) (le-ltb p (length s.options) (let z = sh.options in omega arith)) ∙ ap ordering (let z = sh.options in let y : p - length s.options ≡ 32 + u - 32 = omega arith in y) ∙ sym (numbered_ordering (32 + u) (omega arith)))
-          (kept.ordering.keeps u) (λ t. go (kept.ordering.only u t))
+      ordering_is_open : (u : ℕ) → u < m → T (has h.open_orderings u) → T (is_open (decision_of (has f.kept_orderings u) (has f.dropped_orderings u)))
+      ordering_is_open u l t = go (has f.kept_orderings u) (has f.dropped_orderings u) (subst T (holds_at half.orderings u l) t)
         where
-          named : Named n m (32 + u)
-          named = record { option = λ k. absurd (omega arith); ordering = λ _. (let y : 32 + u - 32 ≡ u = omega arith in omega arith) }
+          go : (a b : Bool) → T (not (a || b)) → T (is_open (decision_of a b))
+          go true b t = absurd t
+          go false true t = absurd t
+          go false false t = tt
 
-          go : T (has f.kept_orderings u) ⊎ ((u < m) × T (has h.open_orderings u) × MayKeep f.known after firsts seconds n m h.open_options kept.begins kept.ends c.left_options c.left_orderings spare (32 + u))
-              → T (has f.kept_orderings u) ⊎ (T (is_open (decision_of (has f.kept_orderings u) (has f.dropped_orderings u))) × Keepable s sh.proper 0 d (size n m firsts seconds rows ws bs arrays want g apart f by s sh) want (numbered (32 + u)))
-          go (inl t) = inl t
-          go (inr (_, t, y)) = inr (ordering_is_open u l t, keepable (32 + u) named (subst (λ z. T (L.item_open w b z)) (ap ordering (let y : u ≡ 32 + u - 32 = omega arith in y) ∙ sym (numbered_ordering (32 + u) (omega arith))) (subst T (holds_at opens.orderings u l) t)) y)
+      -- a place of the list, whether option or ordering: as forced, or kept too
+      at_place : (p : ℕ) (was now dropped : Bool) (x : Item) → get_or e p Open ≡ decision_of now dropped → get_or (forced s d) p Open ≡ decision_of was dropped → item_at s p ≡ x
+          → (T was → T now) → (T now → T was ⊎ (T (is_open (decision_of was dropped)) × Keepable s sh.proper 0 d (size chart want g apart f by s sh) want x))
+          → AsForcedOrKept s sh.proper 0 d (size chart want g apart f by s sh) want e p
+      at_place p true true dropped x q z i keeps only = as_forced (q ∙ sym z)
+      at_place p true false dropped x q z i keeps only = absurd (keeps tt)
+      at_place p false false dropped x q z i keeps only = as_forced (q ∙ sym z)
+      at_place p false true dropped x q z i keeps only = go (only tt)
+        where
+          go : ⊥ ⊎ (T (is_open (decision_of false dropped)) × Keepable s sh.proper 0 d (size chart want g apart f by s sh) want x)
+              → AsForcedOrKept s sh.proper 0 d (size chart want g apart f by s sh) want e p
+          go (inl t) = absurd t
+          go (inr (o, y)) = kept_too q (subst (λ y. T (is_open y)) (sym z) o) (subst (λ y. Keepable s sh.proper 0 d (size chart want g apart f by s sh) want y) (sym i) y)
 
-    pub keeps_keepable : KeepsKeepable s sh.proper 0 d (size n m firsts seconds rows ws bs arrays want g apart f by s sh) want e
-    unfolding decisions_of
-    keeps_keepable = record {
-      long = size_of s n m sh.options sh.orderings (λ i. decision_of (has k.given.kept i) (has k.given.dropped i)) (λ u. decision_of (has k.given.kept_orderings u) (has k.given.dropped_orderings u));
-      places = λ p l. go p l (ltb p n) refl;
-    }
-      where
-        go : (p : ℕ) → p < items s → (q : Bool) → ltb p n ≡ q → AsForcedOrKept s sh.proper 0 d (size n m firsts seconds rows ws bs arrays want g apart f by s sh) want e p
-        go p l true q = option_place p (ltb-true p n q)
-        go p l false q = let y = ltb-false p n q in let a = sh.options in let z = sh.orderings in ordering_place p (p - n) (omega arith) (omega arith)
+      module _ (p : ℕ) where
+        -- an option
+        option_place : p < n → AsForcedOrKept s sh.proper 0 d (size chart want g apart f by s sh) want e p
+        unfolding item_at
+        option_place l = at_place p (has f.kept p) (has k.given.kept p) (has f.dropped p) (numbered p)
+            (option_stands chart k.given p l ∙ ap (λ z. decision_of (has k.given.kept p) (has z p)) kept.dropped)
+            (ap (λ z. get_or z p Open) forced_is ∙ option_stands chart (sets_of f) p l)
+            (ap (λ z. cond z (option p) (ordering (p - length s.options))) (lt-ltb p (length s.options) (let q = sh.options in omega arith)) ∙ sym (numbered_option p (let q = chart.ends.few_options in omega arith)))
+            (kept.option.keeps p) (λ t. go (kept.option.only p t))
+          where
+            named : Named n m p
+            named = record { option = λ _. l; ordering = λ k. (let q = chart.ends.few_options in absurd (omega arith)) }
+
+            go : T (has f.kept p) ⊎ ((p < n) × T (has h.open_options p) × MayKeep chart h.known after h.open_options kept.begins kept.ends c.left spare p)
+                → T (has f.kept p) ⊎ (T (is_open (decision_of (has f.kept p) (has f.dropped p))) × Keepable s sh.proper 0 d (size chart want g apart f by s sh) want (numbered p))
+            go (inl t) = inl t
+            go (inr (_, t, y)) = inr (option_is_open p l t, keepable p named (subst (λ z. T (L.item_open w b z)) (sym (numbered_option p (let q = chart.ends.few_options in omega arith))) (subst T (holds_at opens.options p l) t)) y)
+
+        -- an ordering
+        ordering_place : (u : ℕ) → u < m → p ≡ n + u → AsForcedOrKept s sh.proper 0 d (size chart want g apart f by s sh) want e p
+        unfolding item_at
+        ordering_place u l q = at_place p (has f.kept_orderings u) (has k.given.kept_orderings u) (has f.dropped_orderings u) (numbered (32 + u))
+            (ap (λ z. get_or e z Open) q ∙ ordering_stands chart k.given u l ∙ ap (λ z. decision_of (has k.given.kept_orderings u) (has z u)) kept.dropped_orderings)
+            (ap (λ z. get_or z p Open) forced_is ∙ ap (λ z. get_or (decisions_of chart (sets_of f)) z Open) q ∙ ordering_stands chart (sets_of f) u l)
+            (ap (λ z. cond z (option p) (ordering (p - length s.options))) (le-ltb p (length s.options) (let z = sh.options in omega arith)) ∙ ap ordering (let z = sh.options in let y : p - length s.options ≡ 32 + u - 32 = omega arith in y) ∙ sym (numbered_ordering (32 + u) (omega arith)))
+            (kept.ordering.keeps u) (λ t. go (kept.ordering.only u t))
+          where
+            named : Named n m (32 + u)
+            named = record { option = λ k. absurd (omega arith); ordering = λ _. (let y : 32 + u - 32 ≡ u = omega arith in omega arith) }
+
+            go : T (has f.kept_orderings u) ⊎ ((u < m) × T (has h.open_orderings u) × MayKeep chart h.known after h.open_options kept.begins kept.ends c.left spare (32 + u))
+                → T (has f.kept_orderings u) ⊎ (T (is_open (decision_of (has f.kept_orderings u) (has f.dropped_orderings u))) × Keepable s sh.proper 0 d (size chart want g apart f by s sh) want (numbered (32 + u)))
+            go (inl t) = inl t
+            go (inr (_, t, y)) = inr (ordering_is_open u l t, keepable (32 + u) named (subst (λ z. T (L.item_open w b z)) (ap ordering (let y : u ≡ 32 + u - 32 = omega arith in y) ∙ sym (numbered_ordering (32 + u) (omega arith))) (subst T (holds_at opens.orderings u l) t)) y)
+
+      pub keeps_keepable : KeepsKeepable s sh.proper 0 d (size chart want g apart f by s sh) want e
+      unfolding decisions_of
+      keeps_keepable = record {
+        long = size_of s n m sh.options sh.orderings (λ i. decision_of (has k.given.kept i) (has k.given.dropped i)) (λ u. decision_of (has k.given.kept_orderings u) (has k.given.dropped_orderings u));
+        places = λ p l. go p l (ltb p n) refl;
+      }
+        where
+          go : (p : ℕ) → p < items s → (q : Bool) → ltb p n ≡ q → AsForcedOrKept s sh.proper 0 d (size chart want g apart f by s sh) want e p
+          go p l true q = option_place p (ltb-true p n q)
+          go p l false q = let y = ltb-false p n q in let a = sh.options in let z = sh.orderings in ordering_place p (p - n) (omega arith) (omega arith)

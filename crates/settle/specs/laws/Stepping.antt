@@ -1,6 +1,9 @@
 -- One round of settling keeps its promise, and round after round does.
 use Rattle.std.specs.Prelude.{◌≡◌, refl, Bool, true, false, not, ◌||◌, ◌⊎◌, List, ℕ, ◌+◌, ◌-◌, ◌≤◌, ◌<◌, get_or, T}
+use Rattle.chart.specs.declared.chart.Chart.{Chart}
 use Rattle.std.proofs.Common.{sym, subst, ap, ◌∙◌, inl, inr, arith}
+use Rattle.std.proofs.Props.{props}
+use mathlib.Core.Logic.{∥∥₁_elim}
 use Rattle.rules.specs.Lines.{Lines}
 use Rattle.rules.specs.Subscription.{items}
 use Rattle.rules.specs.Relaxation.{ConsistentRelaxation, value_of}
@@ -20,7 +23,7 @@ use Rattle.given.specs.declared.sets.Given.{Given}
 use Rattle.forced.specs.declared.forcing.Forced.{Forced}
 use Rattle.half.specs.declared.opened.Half.{Half}
 use Rattle.bound.specs.declared.charging.Charged.{Charged}
-use Rattle.keeping.specs.Arrays.{ShowsSheet, Arrays}
+use Rattle.chart.specs.Chart.{ShowsSheet, ASheet}
 use Rattle.keeping.specs.Sets.{decisions_of, Apart, sets_of}
 use Rattle.keeping.specs.Keeping.{KeptMore}
 use Rattle.settle.specs.Settled.{left_with, SettledAs, StepAs, AfterForcing}
@@ -33,39 +36,39 @@ use Rattle.settle.specs.declared.settling.Settled.{Settled}
 use Rattle.settle.specs.declared.settling.Step.{Step}
 
 -- An end is settled: there is no other round.
-pub step_ended : (n m : ℕ) (firsts seconds rows ws bs : List ℕ) (want : ℕ) (g : Given) (x : Step) → x.more ≡ false → SettledAs n m firsts seconds rows ws bs want g x.settled → StepAs n m firsts seconds rows ws bs want g x
-step_ended n m firsts seconds rows ws bs want g x e w = record { settled = λ _. w; apart = λ q. absurd (never q); fewer = λ q. absurd (never q); reduces = λ q. absurd (never q) }
+pub step_ended : (chart : Chart) (want : ℕ) (g : Given) (x : Step) → x.more ≡ false → SettledAs chart want g x.settled → StepAs chart want g x
+step_ended chart want g x e w = record { settled = λ _. w; apart = λ q. absurd (never q); fewer = λ q. absurd (never q); reduces = λ q. absurd (never q) }
   where
     never : x.more ≡ true → ⊥
     never q = subst T (sym q ∙ e) tt
 
-pub step_forced : (n m : ℕ) (firsts seconds rows ws bs : List ℕ) (arrays : Arrays n m firsts seconds rows ws bs) (want : ℕ) (g : Given) (apart : Apart n m g) (f : Forced) (by : ForcedBy n m firsts seconds rows g f)
-    (h : Half) (half : HalfDecidedAs f n m ws bs h) (e : f.contradiction ≡ false) (left : Given) → left ≡ sets_of f → (x : Step) → x ≡ left_with left h false → StepAs n m firsts seconds rows ws bs want g x
-step_forced n m firsts seconds rows ws bs arrays want g apart f by h half e left sets x is = subst (StepAs n m firsts seconds rows ws bs want g) (sym (is ∙ ap (λ z. left_with z h false) sets))
-    (step_ended n m firsts seconds rows ws bs want g (left_with (sets_of f) h false) refl (forced_settles n m firsts seconds rows ws bs arrays want g apart f by h half e))
+pub step_forced : (chart : Chart) (want : ℕ) (g : Given) (apart : Apart chart g) (f : Forced) (by : ForcedBy chart g f)
+    (h : Half) (half : HalfDecidedAs chart f h) (e : f.contradiction ≡ false) (left : Given) → left ≡ sets_of f → (x : Step) → x ≡ left_with left h false → StepAs chart want g x
+step_forced chart want g apart f by h half e left sets x is = subst (StepAs chart want g) (sym (is ∙ ap (λ z. left_with z h false) sets))
+    (step_ended chart want g (left_with (sets_of f) h false) refl (forced_settles chart want g apart f by h half e))
 
 -- ---- after the forced decisions
-module _ (n m : ℕ) (firsts seconds rows ws bs : List ℕ) (arrays : Arrays n m firsts seconds rows ws bs) (want : ℕ) (g : Given) (apart : Apart n m g) (f : Forced) (by : ForcedBy n m firsts seconds rows g f)
-    (h : Half) (half : HalfDecidedAs f n m ws bs h) (e : f.contradiction ≡ false) (after : List ℕ) (turn : C.Transposed f.known n n after)
-    (c : Charged) (bounded : BoundedAs f.known firsts seconds n m ws bs h.open_options h.open_orderings c) where
+module _ (chart : Chart) (want : ℕ) (g : Given) (apart : Apart chart g) (f : Forced) (by : ForcedBy chart g f)
+    (h : Half) (half : HalfDecidedAs chart f h) (e : f.contradiction ≡ false) (after : List ℕ) (turn : C.Transposed h.known chart.option_count chart.option_count after)
+    (c : Charged) (bounded : BoundedAs chart h.known h.open_options h.open_orderings c) where
   abbrev d : List Decision
-  d = decisions_of n m g
+  d = decisions_of chart g
 
   -- what is charged brings the limit below what is wanted
-  pub step_charged : (x : Step) → x.settled.over ≡ true → x.more ≡ false → h.upper < want + c.charged → StepAs n m firsts seconds rows ws bs want g x
-  step_charged x o q l = step_ended n m firsts seconds rows ws bs want g x q (over_settles n m firsts seconds rows ws bs arrays want g apart f by x.settled o
-      (λ s sh r ok ag. let p = charged_limit n m firsts seconds rows ws bs arrays want g apart f by h half e c bounded s sh r ok ag in omega arith))
+  pub step_charged : (x : Step) → x.settled.over ≡ true → x.more ≡ false → h.upper < want + c.charged → StepAs chart want g x
+  step_charged x o q l = step_ended chart want g x q (over_settles chart want g apart f by x.settled o
+      (λ s sh r ok ag. let p = charged_limit chart want g apart f by h half e c bounded s sh r ok ag in omega arith))
 
   -- ---- items are kept besides
-  module _ (spare : ℕ) (k : More) (kept : KeptMore f.known after firsts seconds n m h.open_options h.open_orderings c.left_options c.left_orderings spare (sets_of f) k)
+  module _ (spare : ℕ) (k : More) (kept : KeptMore chart h after c.left spare (sets_of f) k)
       (low : want + c.charged ≤ h.upper) (es : spare ≡ h.upper - want - c.charged) where
-    abbrev Kept_here : (s : Lines) → ShowsSheet s n m firsts seconds rows ws bs → Type 0
-    Kept_here s sh = Reduces (value_of s) (ConsistentRelaxation s) 0 want d (decisions_of n m k.given)
+    abbrev Kept_here : (s : Lines) → ShowsSheet s chart → Type 0
+    Kept_here s sh = Reduces (value_of s) (ConsistentRelaxation s) 0 want d (decisions_of chart k.given)
 
-    kept_reduces : (s : Lines) (sh : ShowsSheet s n m firsts seconds rows ws bs) → Kept_here s sh
-    kept_reduces s sh = reduces_keepable s sh.proper 0 d (size n m firsts seconds rows ws bs arrays want g apart f by s sh)
-        (no_contradiction_here n m firsts seconds rows ws bs arrays want g apart f by h half e c bounded s sh) want (decisions_of n m k.given)
-        (keeps_keepable n m firsts seconds rows ws bs arrays want g apart f by h half e after turn c bounded low spare es k kept s sh)
+    kept_reduces : (s : Lines) (sh : ShowsSheet s chart) → Kept_here s sh
+    kept_reduces s sh = reduces_keepable s sh.proper 0 d (size chart want g apart f by s sh)
+        (no_contradiction_here chart want g apart f by h half e c bounded s sh) want (decisions_of chart k.given)
+        (keeps_keepable chart want g apart f by h half e c bounded after turn low spare es k kept s sh)
 
     -- an open slot is neither kept nor dropped
     not_dropped : (a b o : Bool) → o ≡ not (a || b) → T o → T b → ⊥
@@ -74,8 +77,8 @@ module _ (n m : ℕ) (firsts seconds rows ws bs : List ℕ) (arrays : Arrays n m
     not_dropped true false o q t u = u
     not_dropped false false o q t u = u
 
-    kept_apart : Apart n m k.given
-    kept_apart = let was = forced_apart n m firsts seconds rows ws bs arrays g apart f by e in record {
+    kept_apart : Apart chart k.given
+    kept_apart = let was = forced_apart chart g apart f by e in record {
       options = λ j t u. option j (kept.option.only j t) (subst (λ z. T (has z j)) kept.dropped u);
       orderings = λ j t u. ordering j (kept.ordering.only j t) (subst (λ z. T (has z j)) kept.dropped_orderings u);
       kept = λ j t. below (kept.option.only j t) (was.kept j);
@@ -88,32 +91,32 @@ module _ (n m : ℕ) (firsts seconds rows ws bs : List ℕ) (arrays : Arrays n m
         below (inl t) p = p t
         below (inr (l, _, _)) p = l
 
-        option : {A : Type 0} (j : ℕ) → T (has f.kept j) ⊎ ((j < n) × T (has h.open_options j) × A) → T (has f.dropped j) → ⊥
-        option j (inl t) u = (forced_apart n m firsts seconds rows ws bs arrays g apart f by e).options j t u
+        option : {A : Type 0} (j : ℕ) → T (has f.kept j) ⊎ ((j < chart.option_count) × T (has h.open_options j) × A) → T (has f.dropped j) → ⊥
+        option j (inl t) u = (forced_apart chart g apart f by e).options j t u
         option j (inr (l, t, _)) u = not_dropped (has f.kept j) (has f.dropped j) (has h.open_options j) (holds_at half.options j l) t u
 
-        ordering : {A : Type 0} (j : ℕ) → T (has f.kept_orderings j) ⊎ ((j < m) × T (has h.open_orderings j) × A) → T (has f.dropped_orderings j) → ⊥
-        ordering j (inl t) u = (forced_apart n m firsts seconds rows ws bs arrays g apart f by e).orderings j t u
+        ordering : {A : Type 0} (j : ℕ) → T (has f.kept_orderings j) ⊎ ((j < chart.ordering_count) × T (has h.open_orderings j) × A) → T (has f.dropped_orderings j) → ⊥
+        ordering j (inl t) u = (forced_apart chart g apart f by e).orderings j t u
         ordering j (inr (l, t, _)) u = not_dropped (has f.kept_orderings j) (has f.dropped_orderings j) (has h.open_orderings j) (holds_at half.orderings j l) t u
 
     -- where one is, fewer are open
-    kept_fewer : k.more ≡ true → open_items (decisions_of n m k.given) < open_items d
-    kept_fewer q = go kept.more_options kept.more_orderings (sym kept.more ∙ q) kept.option.one kept.ordering.one
+    fewer_on : ASheet chart → k.more ≡ true → open_items (decisions_of chart k.given) < open_items d
+    fewer_on a q = go kept.more_options kept.more_orderings (sym kept.more ∙ q) kept.option.one kept.ordering.one
       where
         s : Lines
-        s = arrays.lines
+        s = a.lines
 
-        sh : ShowsSheet arrays.lines n m firsts seconds rows ws bs
-        sh = arrays.of
+        sh : ShowsSheet a.lines chart
+        sh = a.show
 
         -- at a place where the list keeps what was open
-        closes : (p : ℕ) → p < items arrays.lines → get_or (decisions_of n m k.given) p Open ≡ Kept → T (is_open (get_or (decisions_of n m (sets_of f)) p Open)) → open_items (decisions_of n m k.given) < open_items d
+        closes : (p : ℕ) → p < items a.lines → get_or (decisions_of chart k.given) p Open ≡ Kept → T (is_open (get_or (decisions_of chart (sets_of f)) p Open)) → open_items (decisions_of chart k.given) < open_items d
         closes p l x o =
-            let a = size n m firsts seconds rows ws bs arrays want g apart f by s sh in
-            let z = keeping_closes_one s sh.proper 0 d a (no_contradiction_here n m firsts seconds rows ws bs arrays want g apart f by h half e c bounded s sh) want (decisions_of n m k.given)
-            (keeps_keepable n m firsts seconds rows ws bs arrays want g apart f by h half e after turn c bounded low spare es k kept s sh) p l
-            (λ y. subst (λ z. T (is_open z)) (ap (λ z. get_or z p Open) (sym (forced_shown s sh g apart f by)) ∙ sym y ∙ x) o) in
-            let y = forcing_opens_nothing s sh.proper d a (fine n m firsts seconds rows ws bs arrays want g apart f by s sh e) in omega arith
+            let a = size chart want g apart f by s sh in
+            let z = keeping_closes_one s sh.proper 0 d a (no_contradiction_here chart want g apart f by h half e c bounded s sh) want (decisions_of chart k.given)
+            (keeps_keepable chart want g apart f by h half e c bounded after turn low spare es k kept s sh) p l
+            (λ y. subst (λ z. T (is_open z)) (ap (λ z. get_or z p Open) (sym (forced_shown chart s sh g apart f by)) ∙ sym y ∙ x) o) in
+            let y = forcing_opens_nothing s sh.proper d a (fine chart want g apart f by s sh e) in omega arith
 
         kept_two : (a b : Bool) → T a → decision_of a b ≡ Kept
         kept_two true b t = refl
@@ -124,19 +127,22 @@ module _ (n m : ℕ) (firsts seconds rows ws bs : List ℕ) (arrays : Arrays n m
         open_two false true o x t = absurd (subst T x t)
         open_two false false o x t = tt
 
-        option : (j : ℕ) × (j < n) × T (has h.open_options j) × T (has k.given.kept j) → open_items (decisions_of n m k.given) < open_items d
-        option (j, l, t, u) = closes j (let a = sh.options in omega arith) (option_stands n m k.given j l ∙ kept_two (has k.given.kept j) (has k.given.dropped j) u)
-            (subst (λ z. T (is_open z)) (sym (option_stands n m (sets_of f) j l)) (open_two (has f.kept j) (has f.dropped j) (has h.open_options j) (holds_at half.options j l) t))
+        option : (j : ℕ) × (j < chart.option_count) × T (has h.open_options j) × T (has k.given.kept j) → open_items (decisions_of chart k.given) < open_items d
+        option (j, l, t, u) = closes j (let a = sh.options in omega arith) (option_stands chart k.given j l ∙ kept_two (has k.given.kept j) (has k.given.dropped j) u)
+            (subst (λ z. T (is_open z)) (sym (option_stands chart (sets_of f) j l)) (open_two (has f.kept j) (has f.dropped j) (has h.open_options j) (holds_at half.options j l) t))
 
-        ordering : (j : ℕ) × (j < m) × T (has h.open_orderings j) × T (has k.given.kept_orderings j) → open_items (decisions_of n m k.given) < open_items d
-        ordering (j, l, t, u) = closes (n + j) (let a = sh.options in let z = sh.orderings in omega arith) (ordering_stands n m k.given j l ∙ kept_two (has k.given.kept_orderings j) (has k.given.dropped_orderings j) u)
-            (subst (λ z. T (is_open z)) (sym (ordering_stands n m (sets_of f) j l)) (open_two (has f.kept_orderings j) (has f.dropped_orderings j) (has h.open_orderings j) (holds_at half.orderings j l) t))
+        ordering : (j : ℕ) × (j < chart.ordering_count) × T (has h.open_orderings j) × T (has k.given.kept_orderings j) → open_items (decisions_of chart k.given) < open_items d
+        ordering (j, l, t, u) = closes (chart.option_count + j) (let a = sh.options in let z = sh.orderings in omega arith) (ordering_stands chart k.given j l ∙ kept_two (has k.given.kept_orderings j) (has k.given.dropped_orderings j) u)
+            (subst (λ z. T (is_open z)) (sym (ordering_stands chart (sets_of f) j l)) (open_two (has f.kept_orderings j) (has f.dropped_orderings j) (has h.open_orderings j) (holds_at half.orderings j l) t))
 
-        go : (a b : Bool) → (a || b) ≡ true → (a ≡ true → (j : ℕ) × (j < n) × T (has h.open_options j) × T (has k.given.kept j)) → (b ≡ true → (j : ℕ) × (j < m) × T (has h.open_orderings j) × T (has k.given.kept_orderings j))
-            → open_items (decisions_of n m k.given) < open_items d
+        go : (a b : Bool) → (a || b) ≡ true → (a ≡ true → (j : ℕ) × (j < chart.option_count) × T (has h.open_options j) × T (has k.given.kept j)) → (b ≡ true → (j : ℕ) × (j < chart.ordering_count) × T (has h.open_orderings j) × T (has k.given.kept_orderings j))
+            → open_items (decisions_of chart k.given) < open_items d
         go true b x p q = option (p refl)
         go false true x p q = ordering (q refl)
         go false false x p q = absurd (subst T (sym x) tt)
+
+    kept_fewer : k.more ≡ true → open_items (decisions_of chart k.given) < open_items d
+    kept_fewer q = ∥∥₁_elim chart.of_a_sheet (hlevel props) (λ a. fewer_on a q)
 
     -- where none is, the forced decisions are left
     nothing_moved : k.more ≡ false → k.given ≡ sets_of f
@@ -147,41 +153,32 @@ module _ (n m : ℕ) (firsts seconds rows ws bs : List ℕ) (arrays : Arrays n m
         go false true x p q = absurd (subst T x tt)
         go false false x p q = λ i. record { kept = p refl i; dropped = kept.dropped i; kept_orderings = q refl i; dropped_orderings = kept.dropped_orderings i }
 
-    pub step_kept : StepAs n m firsts seconds rows ws bs want g (left_with k.given h k.more)
+    pub step_kept : StepAs chart want g (left_with k.given h k.more)
     step_kept = record {
-      settled = λ q. subst (λ z. SettledAs n m firsts seconds rows ws bs want g (left_with z h false).settled) (sym (nothing_moved q))
-          (forced_settles n m firsts seconds rows ws bs arrays want g apart f by h half e);
+      settled = λ q. subst (λ z. SettledAs chart want g (left_with z h false).settled) (sym (nothing_moved q))
+          (forced_settles chart want g apart f by h half e);
       apart = λ _. kept_apart;
       fewer = kept_fewer;
       reduces = λ _ s sh. kept_reduces s sh;
     }
 
--- ---- the same by the names that the code has for the table and for the forced decisions
-module _ (n m : ℕ) (firsts seconds ws bs known after : List ℕ) (want : ℕ) (f : Forced) (h : Half) (c : Charged) (table : known ≡ f.known) (turn : C.Transposed known n n after)
-    (bounded : BoundedAs known firsts seconds n m ws bs h.open_options h.open_orderings c) where
-  turned_here : C.Transposed f.known n n after
-  turned_here = subst (λ z. C.Transposed z n n after) table turn
+-- ---- whatever decisions these are forced by
+module _ (chart : Chart) (after : List ℕ) (want : ℕ) (f : Forced) (h : Half) (c : Charged) (turn : C.Transposed h.known chart.option_count chart.option_count after)
+    (bounded : BoundedAs chart h.known h.open_options h.open_orderings c) where
+  pub over_after_forcing : (x : Step) → x.settled.over ≡ true → x.more ≡ false → h.upper < want + c.charged → AfterForcing chart want f h x
+  over_after_forcing x o q l = record { step = λ g apart by half e. step_charged chart want g apart f by h half e after turn c bounded x o q l }
 
-  bounded_here : BoundedAs f.known firsts seconds n m ws bs h.open_options h.open_orderings c
-  bounded_here = subst (λ z. BoundedAs z firsts seconds n m ws bs h.open_options h.open_orderings c) table bounded
-
-  pub over_after_forcing : (x : Step) → x.settled.over ≡ true → x.more ≡ false → h.upper < want + c.charged → AfterForcing n m firsts seconds ws bs want f h x
-  over_after_forcing x o q l = record { step = λ rows arrays g apart by half e. step_charged n m firsts seconds rows ws bs arrays want g apart f by h half e after turned_here c bounded_here x o q l }
-
-  pub kept_after_forcing : (spare : ℕ) (g : Given) → g ≡ sets_of f → (k : More) → KeptMore known after firsts seconds n m h.open_options h.open_orderings c.left_options c.left_orderings spare g k
-      → want + c.charged ≤ h.upper → spare ≡ h.upper - want - c.charged → (x : Step) → x ≡ left_with k.given h k.more → AfterForcing n m firsts seconds ws bs want f h x
+  pub kept_after_forcing : (spare : ℕ) (g : Given) → g ≡ sets_of f → (k : More) → KeptMore chart h after c.left spare g k
+      → want + c.charged ≤ h.upper → spare ≡ h.upper - want - c.charged → (x : Step) → x ≡ left_with k.given h k.more → AfterForcing chart want f h x
   kept_after_forcing spare g sets k kept low es x is = record {
-    step = λ rows arrays g apart by half e. subst (StepAs n m firsts seconds rows ws bs want g) (sym is) (step_kept n m firsts seconds rows ws bs arrays want g apart f by h half e after turned_here c bounded_here spare k kept_here low es);
+    step = λ g apart by half e. subst (StepAs chart want g) (sym is)
+        (step_kept chart want g apart f by h half e after turn c bounded spare k (subst (λ z. KeptMore chart h after c.left spare z k) sets kept) low es);
   }
-    where
-      kept_here : KeptMore f.known after firsts seconds n m h.open_options h.open_orderings c.left_options c.left_orderings spare (sets_of f) k
-      kept_here = subst (λ z. KeptMore f.known after firsts seconds n m h.open_options h.open_orderings c.left_options c.left_orderings spare z k) sets
-          (subst (λ z. KeptMore z after firsts seconds n m h.open_options h.open_orderings c.left_options c.left_orderings spare g k) table kept)
 
 -- ---- round after round
-pub settles_then : (n m : ℕ) (firsts seconds rows ws bs : List ℕ) (want : ℕ) (g : Given) (x : Step) → StepAs n m firsts seconds rows ws bs want g x → x.more ≡ true
-    → (r : Settled) → SettledAs n m firsts seconds rows ws bs want x.settled.given r → SettledAs n m firsts seconds rows ws bs want g r
-settles_then n m firsts seconds rows ws bs want g x step more r w = record {
+pub settles_then : (chart : Chart) (want : ℕ) (g : Given) (x : Step) → StepAs chart want g x → x.more ≡ true
+    → (r : Settled) → SettledAs chart want x.settled.given r → SettledAs chart want g r
+settles_then chart want g x step more r w = record {
   over = λ q s sh c ok ag. over s sh q c ((step.reduces more s sh).to c ok ag);
   left = λ q. let l = w.left q in record {
     apart = l.apart;
@@ -189,15 +186,15 @@ settles_then n m firsts seconds rows ws bs want g x step more r w = record {
     orderings = l.orderings;
     no_more_open = (let a = l.no_more_open in let b = step.fewer more in omega arith);
     small = l.small;
-    reduces = λ s sh. reduces_then (value_of s) (ConsistentRelaxation s) 0 want (decisions_of n m g) (decisions_of n m x.settled.given) (decisions_of n m r.given) (step.reduces more s sh) (l.reduces s sh);
+    reduces = λ s sh. reduces_then (value_of s) (ConsistentRelaxation s) 0 want (decisions_of chart g) (decisions_of chart x.settled.given) (decisions_of chart r.given) (step.reduces more s sh) (l.reduces s sh);
     consistent = l.consistent;
     worth = l.worth;
   };
 }
   where
-    over : (s : Lines) → ShowsSheet s n m firsts seconds rows ws bs → r.over ≡ true → (c : List Bool) → (value_of s c < want + 0) ⊎ Above (value_of s) (ConsistentRelaxation s) 0 (decisions_of n m x.settled.given) c → value_of s c < want
+    over : (s : Lines) → ShowsSheet s chart → r.over ≡ true → (c : List Bool) → (value_of s c < want + 0) ⊎ Above (value_of s) (ConsistentRelaxation s) 0 (decisions_of chart x.settled.given) c → value_of s c < want
     over s sh q c (inl l) = omega arith
     over s sh q c (inr a) = let p = w.over q s sh a.other a.allowed a.agrees in let z = a.value_of in omega arith
 
-pub step_falls : (n m : ℕ) (firsts seconds rows ws bs : List ℕ) (want : ℕ) (g : Given) (x : Step) → StepAs n m firsts seconds rows ws bs want g x → x.more ≡ true → (t : ℕ) → open_items (decisions_of n m g) ≡ t → open_items (decisions_of n m x.settled.given) < t
-step_falls n m firsts seconds rows ws bs want g x step more t q = let a = step.fewer more in omega arith
+pub step_falls : (chart : Chart) (want : ℕ) (g : Given) (x : Step) → StepAs chart want g x → x.more ≡ true → (t : ℕ) → open_items (decisions_of chart g) ≡ t → open_items (decisions_of chart x.settled.given) < t
+step_falls chart want g x step more t q = let a = step.fewer more in omega arith

@@ -1,12 +1,9 @@
 -- Each turn charges one chain more, or none.
-use mathlib.Core.Path.{◌≡◌}
-use lib.ListN.{length}
-use Rattle.hints.specs.Hints.{HintsAt}
 use Rattle.bound.specs.Bound.{KeepsCharged}
 use Rattle.bound.proofs.charging.charge_items.Given as goal
 
 abbrev pub invariant-loop-turns : goal.invariant-loop-turns
-invariant-loop-turns l = KeepsCharged l.known l.first l.second l.r.n l.r.m l.initial.k.charged l.k.charged l.initial.options l.initial.orderings l.options l.orderings × (length l.options ≡ length l.initial.options) × (length l.orderings ≡ length l.initial.orderings) × HintsAt l.k.charged l.k
+invariant-loop-turns l = KeepsCharged l.chart l.known l.initial.h.charged l.h.charged l.initial.left l.left
 
 abbrev pub decreases-loop-turns : goal.decreases-loop-turns
 decreases-loop-turns l = l.turns

@@ -3,4 +3,4 @@ use Rattle.keeping.specs.Sets.{decisions_of}
 use Rattle.branch.proofs.branching.+branch.Given as goal
 
 abbrev pub decreases-branch : goal.decreases-branch
-decreases-branch l = open_items (decisions_of l.n l.m l.g)
+decreases-branch l = open_items (decisions_of l.chart.now l.g)

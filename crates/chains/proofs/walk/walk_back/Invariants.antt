@@ -3,7 +3,7 @@ use Prim.Native.Nat.{◌+◌, ◌≤◌, ◌<◌}
 use Rattle.chains.proofs.walk.walk_back.Given as goal
 
 abbrev pub invariant-loop-l : goal.invariant-loop-l
-invariant-loop-l l = (l.l ≤ l.last) × (l.item < 32 + l.m)
+invariant-loop-l l = (l.l ≤ l.last) × (l.item < 32 + l.chart.ordering_count)
 
 abbrev pub decreases-loop-l : goal.decreases-loop-l
 decreases-loop-l l = l.l

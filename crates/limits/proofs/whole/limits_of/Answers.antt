@@ -4,7 +4,7 @@ use Rattle.limits.specs.laws.Limited.{limited_contradiction, limited_otherwise}
 use Rattle.limits.proofs.whole.limits_of.Goals as goal
 
 pub returns-then-clash : goal.returns-then-clash
-returns-then-clash c = λ v b shows weighs gives. c.contradictory.ensures ∙ limited_contradiction c.args.n c.args.m c.args.first.now c.args.second.now c.args.weights.now c.args.ordering_weights.now c.args.t c.args.g _ c.force-f.ensures c.if-clash.true v b shows weighs gives
+returns-then-clash c = λ v b shows weighs gives. c.contradictory.ensures ∙ limited_contradiction c.args.chart.now c.args.g _ c.force-f.ensures c.if-clash.true v b shows weighs gives
 
 pub returns : goal.returns
-returns c = limited_otherwise _ _ _ _ _ _ c.args.t c.args.g _ c.force-f.ensures c.requires.0 _ c.half_decided-h.ensures c.if-clash.false c.options_decided-o.ensures c.orderings_decided-u.ensures c.option_limits-x.ensures c.ordering_limits-y.ensures
+returns c = limited_otherwise _ c.args.g _ c.force-f.ensures _ c.half_decided-h.ensures c.if-clash.false c.options_decided-o.ensures c.orderings_decided-u.ensures c.option_limits-x.ensures c.ordering_limits-y.ensures

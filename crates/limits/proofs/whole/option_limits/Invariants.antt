@@ -6,7 +6,7 @@ use Rattle.given.specs.Filled.{filled}
 use Rattle.limits.proofs.whole.option_limits.Given as goal
 
 abbrev pub invariant-loop-i : goal.invariant-loop-i
-invariant-loop-i l = (l.i ≤ l.n) × (l.l ≡ filled 32 l.i (option_limit_in l.h l.n l.m l.first l.second l.weights l.ordering_weights) no_limit)
+invariant-loop-i l = (l.i ≤ l.chart.option_count) × (l.l ≡ filled 32 l.i (option_limit_in l.chart l.h) no_limit)
 
 abbrev pub decreases-loop-i : goal.decreases-loop-i
-decreases-loop-i l = l.n - l.i
+decreases-loop-i l = l.chart.option_count - l.i

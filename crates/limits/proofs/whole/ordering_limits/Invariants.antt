@@ -6,7 +6,7 @@ use Rattle.given.specs.Filled.{filled}
 use Rattle.limits.proofs.whole.ordering_limits.Given as goal
 
 abbrev pub invariant-loop-u : goal.invariant-loop-u
-invariant-loop-u l = (l.u ≤ l.m) × (l.l ≡ filled 64 l.u (ordering_limit_in l.h l.n l.m l.first l.second l.weights l.ordering_weights) no_limit)
+invariant-loop-u l = (l.u ≤ l.chart.ordering_count) × (l.l ≡ filled 64 l.u (ordering_limit_in l.chart l.h) no_limit)
 
 abbrev pub decreases-loop-u : goal.decreases-loop-u
-decreases-loop-u l = l.m - l.u
+decreases-loop-u l = l.chart.ordering_count - l.u

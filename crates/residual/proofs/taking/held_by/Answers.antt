@@ -13,28 +13,28 @@ use Rattle.residual.proofs.taking.held_by.Goals.{then-yes, else-yes}
 
 pub returns-then-x-ge32 : goal.returns-then-x-ge32
 returns-then-x-ge32 c = let asked = c.requires in
-    (sym (held_ordering _ _ _ _ _ _ _ asked.1 c.if-x-ge32.true), omega (arith, asked.2.ordering (c.args.x - 32)))
+    (sym (held_ordering _ _ _ _ _ _ _ asked.0 c.if-x-ge32.true), omega (arith, asked.1.ordering (c.args.x - 32)))
 
 pub loop-w-init : goal.loop-w-init
 unfolding sum
-loop-w-init c = (omega arith, omega arith, omega (arith, c.requires.2.option c.args.x))
+loop-w-init c = (omega arith, omega arith, omega (arith, c.requires.1.option c.args.x))
 
 pub loop-w-preserved : goal.loop-w-preserved
 loop-w-preserved c =
     let given = c.args in let turn = c.loop-w in
     elim c.if-yes.branch [
       | then-yes y ↦
-          let e = over_yes turn.w (λ j. get_or given.orderings.now j 0) (touches_in given.first.now given.second.now given.x) (sym c.touches-yes.ensures ∙ y.if-yes.true) in
-          let h = c.requires.2.ordering turn.w in let k = y.sum-is in (omega arith, omega arith, omega arith)
+          let e = over_yes turn.w (λ j. get_or given.left.now.orderings j 0) (touches_in given.chart.now.firsts given.chart.now.seconds given.x) (sym c.touches-yes.ensures ∙ y.if-yes.true) in
+          let h = c.requires.1.ordering turn.w in let k = y.sum-is in (omega arith, omega arith, omega arith)
       | else-yes y ↦
-          let e = over_no turn.w (λ j. get_or given.orderings.now j 0) (touches_in given.first.now given.second.now given.x) (sym c.touches-yes.ensures ∙ y.if-yes.false) in
+          let e = over_no turn.w (λ j. get_or given.left.now.orderings j 0) (touches_in given.chart.now.firsts given.chart.now.seconds given.x) (sym c.touches-yes.ensures ∙ y.if-yes.false) in
           let k = y.sum-is in (omega arith, omega arith, omega arith)
     ]
 
 pub returns : goal.returns
 returns c = let given = c.args in let turn = c.loop-w in
     let e = le_antisymm turn.invariant.0 c.loop-w-test.false in (
-      turn.invariant.1 ∙ ap (λ k. get_or given.options.now given.x 0 + over k (λ j. get_or given.orderings.now j 0) (touches_in given.first.now given.second.now given.x)) e
-          ∙ sym (held_option _ _ _ _ _ _ _ c.requires.1 c.if-x-ge32.false),
+      turn.invariant.1 ∙ ap (λ k. get_or given.left.now.options given.x 0 + over k (λ j. get_or given.left.now.orderings j 0) (touches_in given.chart.now.firsts given.chart.now.seconds given.x)) e
+          ∙ sym (held_option _ _ _ _ _ _ _ c.requires.0 c.if-x-ge32.false),
       omega arith,
     )

@@ -17,7 +17,7 @@ pub returns-then-has_open_item : goal.returns-then-has_open_item
 returns-then-has_open_item c = c.refused-then-has_open_item.ensures ∙ sequence_open_within c.args.sheet c.args.decisions (sym c.is_recorded.ensures ∙ c.if-not-is_recorded.false) (sym c.has_decision_past.ensures ∙ c.if-has_decision_past.false) (sym c.has_open_item.ensures ∙ c.if-has_open_item.true)
 
 pub returns-then-not-consistent : goal.returns-then-not-consistent
-returns-then-not-consistent c = c.refused-then-not-consistent.ensures ∙ sequence_missing c.args.sheet c.args.decisions (sym c.is_recorded.ensures ∙ c.if-not-is_recorded.false) (sym c.has_decision_past.ensures ∙ c.if-has_decision_past.false) (sym c.has_open_item.ensures ∙ c.if-has_open_item.false) _ _ _ c.by_slot-v.ensures c.given_sets-g.ensures c.sequence_of-p.ensures (c.if-not-consistent.true)
+returns-then-not-consistent c = c.refused-then-not-consistent.ensures ∙ sequence_missing c.args.sheet c.args.decisions (sym c.is_recorded.ensures ∙ c.if-not-is_recorded.false) (sym c.has_decision_past.ensures ∙ c.if-has_decision_past.false) (sym c.has_open_item.ensures ∙ c.if-has_open_item.false) _ _ _ c.chart_of-chart.ensures c.given_sets-g.ensures c.sequence_of-p.ensures (c.if-not-consistent.true)
 
 pub returns : goal.returns
-returns c = sequence_found c.args.sheet c.args.decisions (sym c.is_recorded.ensures ∙ c.if-not-is_recorded.false) (sym c.has_decision_past.ensures ∙ c.if-has_decision_past.false) (sym c.has_open_item.ensures ∙ c.if-has_open_item.false) _ _ _ c.by_slot-v.ensures c.given_sets-g.ensures c.sequence_of-p.ensures (c.if-not-consistent.false)
+returns c = sequence_found c.args.sheet c.args.decisions (sym c.is_recorded.ensures ∙ c.if-not-is_recorded.false) (sym c.has_decision_past.ensures ∙ c.if-has_decision_past.false) (sym c.has_open_item.ensures ∙ c.if-has_open_item.false) _ _ _ c.chart_of-chart.ensures c.given_sets-g.ensures c.sequence_of-p.ensures (c.if-not-consistent.false)

@@ -4,4 +4,4 @@ use Rattle.keeping.specs.Sets.{decisions_of}
 use Rattle.settle.proofs.settling.+settle.Given as goal
 
 abbrev pub decreases-settle : goal.decreases-settle
-decreases-settle l = open_items (decisions_of l.n l.m l.g)
+decreases-settle l = open_items (decisions_of l.chart.now l.g)

@@ -3,4 +3,4 @@ use Rattle.value.specs.laws.Whole.{limit_is_above}
 use Rattle.value.proofs.bounds.whole_limit.Goals as goal
 
 pub returns : goal.returns
-returns c = limit_is_above _ _ _ _ _ _ _ _ c.nothing_given-g.ensures c.requires _ c.force-f.ensures _ c.half_decided-h.ensures
+returns c = limit_is_above _ _ c.nothing_given-g.ensures _ c.force-f.ensures _ c.half_decided-h.ensures

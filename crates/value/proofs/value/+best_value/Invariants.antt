@@ -3,4 +3,4 @@ use Rattle.keeping.specs.Sets.{decisions_of}
 use Rattle.value.proofs.value.+best_value.Given as goal
 
 abbrev pub decreases-best_value : goal.decreases-best_value
-decreases-best_value l = open_items (decisions_of l.n l.m l.g)
+decreases-best_value l = open_items (decisions_of l.chart.now l.g)

@@ -3,10 +3,10 @@ use Rattle.settle.specs.laws.Items.{kept_falls, kept_apart}
 use Rattle.value.specs.laws.Values.{reached_nought}
 use Rattle.value.proofs.value.+dive.Goals as goal
 
-pub returns-then-over : goal.returns-then-over
-returns-then-over t c = reached_nought _ _ _ _ _ _ _
+pub returns-then-x : goal.returns-then-x
+returns-then-x t c = reached_nought _
 
 pub dive-requires : goal.dive-requires
 dive-requires t c =
-    let left = c.settle-x.ensures.left c.if-over.false in
-    (kept_falls _ left _ c.heaviest_item-i.ensures c.if-i-ge96.false _ c.keep_item-kept.ensures _ c.decreases, (c.requires.0, kept_apart _ left _ c.heaviest_item-i.ensures c.if-i-ge96.false _ c.keep_item-kept.ensures))
+    let left = c.settle-x.ensures.left c.if-x.false in
+    (kept_falls _ left _ c.heaviest_item-i.ensures c.if-i-ge96.false _ c.keep_item-kept.ensures _ c.decreases, kept_apart _ left _ c.heaviest_item-i.ensures c.if-i-ge96.false _ c.keep_item-kept.ensures)

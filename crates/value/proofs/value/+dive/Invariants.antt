@@ -3,4 +3,4 @@ use Rattle.keeping.specs.Sets.{decisions_of}
 use Rattle.value.proofs.value.+dive.Given as goal
 
 abbrev pub decreases-dive : goal.decreases-dive
-decreases-dive l = open_items (decisions_of l.n l.m l.g)
+decreases-dive l = open_items (decisions_of l.chart.now l.g)

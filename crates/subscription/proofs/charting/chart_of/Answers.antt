@@ -1,14 +1,16 @@
 -- The record's rule gives what each part asks for; the law `shown_by` puts the parts together.
+use Rattle.std.proofs.Common.{refl}
+use Rattle.sheet.specs.Lines.{lines_of}
 use native.Mathlib.Omega.{arith}
 use borrow.Author.Rules.{rules}
 use Rattle.sheet.specs.Recorded.{Recorded}
 use Rattle.sheet.proofs.ObeyLaws.{passes_recorded}
-use Rattle.subscription.specs.laws.Shown.{numbers_differing, shown_by}
-use Rattle.subscription.proofs.slots_of_sheet.by_slot.Goals as goal
-use Rattle.subscription.proofs.slots_of_sheet.by_slot.Goals.{Start}
+use Rattle.subscription.specs.laws.Charted.{numbers_differing, ends, has_weights, show_lines}
+use Rattle.subscription.proofs.charting.chart_of.Goals as goal
+use Rattle.subscription.proofs.charting.chart_of.Goals.{Start}
 
-obeys : (c : Start) → Recorded c.args.s
-obeys c = passes_recorded c.args.s (record {
+obeys : (c : Start) → Recorded c.args.s.now
+obeys c = passes_recorded c.args.s.now (record {
   letters = search (rules, c.well_formed);
   befores = search (rules, c.well_formed);
   afters = search (rules, c.well_formed);
@@ -43,10 +45,27 @@ slots_of-seconds-requires c =
     let L = R.lengths in
     (c.slot_table-table.ensures.size, k, omega arith)
 
+pub invariant_of-result : goal.invariant_of-result
+invariant_of-result c =
+    let s = c.args.s.now in
+    let R = obeys (goal.at.invariant_of-result c).Start in
+    let t = c.slot_table-table.ensures in
+    let says = c.catalogue_rows-rows.ensures.of _ t in
+    let fs = c.slots_of-firsts.ensures.of _ _ t in
+    let ss = c.slots_of-seconds.ensures.of _ _ t in
+    record {
+      ends = ends s R _ _ _ says fs ss;
+      has_weights = has_weights s R _ _ _ says fs ss;
+      of_a_sheet = ∣ record { lines = lines_of s; show = show_lines s R _ _ _ says fs ss } ∣₁;
+    }
+
 pub returns : goal.returns
 returns c =
+    let R = obeys (goal.at.returns c).Start in
     let t = c.slot_table-table.ensures in
-    shown_by _ (obeys (goal.at.returns c).Start) _ _ _
-    (c.catalogue_rows-rows.ensures.of _ t)
-    (c.slots_of-firsts.ensures.of _ _ t)
-    (c.slots_of-seconds.ensures.of _ _ t)
+    record {
+      recorded = R;
+      options = refl;
+      orderings = refl;
+      shows = show_lines c.args.s.now R _ _ _ (c.catalogue_rows-rows.ensures.of _ t) (c.slots_of-firsts.ensures.of _ _ t) (c.slots_of-seconds.ensures.of _ _ t);
+    }

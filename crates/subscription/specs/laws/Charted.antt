@@ -3,13 +3,14 @@ use Rattle.std.specs.Prelude.{◌≡◌, List, ℕ, ◌<◌, get_or}
 use Rattle.std.proofs.Common.{sym, subst, ◌∙◌, arith, eq-eqb, eqb-true}
 use Rattle.rules.specs.Subscription.{Subscription, subscription}
 use Rattle.rows.specs.Sets.{cell}
+use Rattle.graph.specs.Graph.{EndsAreSlots}
 use Rattle.graph.specs.Shown.{counted}
+use Rattle.chart.specs.Arrays.{HasWeights, ShowLines}
 use Rattle.slots.specs.Slots.{NumbersDiffer, SlotOf, SlotsOf}
 use Rattle.catalogue.specs.Catalogue.{SaysCatalogue}
-use Rattle.subscription.specs.Shown.{ShownBy}
 use Rattle.sheet.specs.Lines.{lines_of}
 use Rattle.sheet.specs.Recorded.{Recorded}
-use Rattle.sheet.proofs.LinesLaws.{option_lines, ordering_lines, slot_number, slot_first, slot_second}
+use Rattle.sheet.proofs.LinesLaws.{option_lines, ordering_lines, slot_number, slot_first, slot_second, slot_weight, slot_ordering_weight, recorded_proper}
 use Rattle.sheet.specs.declared.sheet.Sheet.{Sheet}
 
 pub counted_is : (s : Sheet) → counted s.option_count s.ordering_count (subscription (lines_of s)) ≡ subscription (lines_of s)
@@ -59,16 +60,29 @@ module _ (s : Sheet) (R : Recorded s) where
     unfolding subscription lines_of
     before_at i j li lj = rw (slot_number s i li, slot_number s j lj) (sym (says.at i j li lj))
 
-    pub shown_by : ShownBy s (record { rows = rows; firsts = firsts; seconds = seconds })
-    shown_by = record {
-      recorded = R;
-      ends = record {
-        few_options = R.few_options;
-        few_orderings = R.few_orderings;
-        first_size = let a = is_firsts.size in let b = R.few_orderings in omega arith;
-        second_size = let a = is_seconds.size in let b = R.few_orderings in omega arith;
-        first = λ u l. (first_at u l).1;
-        second = λ u l. (second_at u l).1;
-      };
+    pub ends : EndsAreSlots n m firsts seconds
+    ends = record {
+      few_options = R.few_options;
+      few_orderings = R.few_orderings;
+      first_size = let a = is_firsts.size in let b = R.few_orderings in omega arith;
+      second_size = let a = is_seconds.size in let b = R.few_orderings in omega arith;
+      first = λ u l. (first_at u l).1;
+      second = λ u l. (second_at u l).1;
+    }
+
+    pub has_weights : HasWeights n m s.weights s.ordering_weights
+    has_weights = record {
+      few_options = R.few_options;
+      few_orderings = R.few_orderings;
+      weight_size = (let z = R.few_options in let k = R.lengths.weights in omega arith);
+      ordering_weight_size = (let z = R.few_orderings in let k = R.lengths.ordering_weights in omega arith);
+    }
+
+    pub show_lines : ShowLines (lines_of s) n m firsts seconds rows s.weights s.ordering_weights
+    show_lines = record {
+      options = option_lines s;
+      orderings = ordering_lines s;
+      proper = recorded_proper s R;
       shows = record { first = λ u l. (first_at u l).0; second = λ u l. (second_at u l).0; before = before_at };
+      weighs = record { weight = slot_weight s; ordering_weight = slot_ordering_weight s };
     }

@@ -1,0 +1,19 @@
+// The chart of a sheet.
+ghost use Rattle.graph.specs.Graph.{EndsAreSlots};
+ghost use Rattle.chart.specs.Arrays.{HasWeights, OfSomeSheet};
+
+// A sheet's counts, and by slot what the catalogue and the orderings say and what all weighs: row i holds the options that come after
+// option i, and ordering u asks for option firsts[u] before option seconds[u].
+#[derive(Drop)]
+pub struct Chart {
+    pub option_count: usize,
+    pub ordering_count: usize,
+    pub rows: [u32; 32],
+    pub firsts: [u8; 64],
+    pub seconds: [u8; 64],
+    pub weights: [u16; 32],
+    pub ordering_weights: [u16; 64],
+    pub ghost ends: { EndsAreSlots option_count ordering_count firsts seconds },
+    pub ghost has_weights: { HasWeights option_count ordering_count weights ordering_weights },
+    pub ghost of_a_sheet: { ∥ OfSomeSheet option_count ordering_count firsts seconds rows weights ordering_weights ∥₁ },
+}

@@ -1,2 +1,0 @@
-pub mod Hints
-pub mod laws

@@ -2,6 +2,8 @@
 ghost use Rattle.std.specs.Prelude.{◌≤◌};
 ghost use Rattle.branch.specs.First.{FirstOf, FirstItem};
 
+use rows::Slots;
+
 // The smallest slot below n that the set holds; n where it holds none.
 pub fn first_of(set: u64, n: usize) -> usize
     requires { n ≤ 64 }
@@ -9,7 +11,7 @@ pub fn first_of(set: u64, n: usize) -> usize
 {
     let mut i: usize = 0;
     while i < n {
-        if rows::get64(set, i) {
+        if set.get(i) {
             return i;
         }
         i += 1;

@@ -4,6 +4,8 @@
 ghost use Rattle.std.specs.Prelude.{◌≡◌, ◌≤◌, length};
 ghost use Rattle.catalogue.specs.Catalogue.{line_of, WithPair, WithLine, SaysBy};
 
+use rows::Slots;
+
 // Slot i before slot j, if both are there.
 pub fn put_pair(t: [u32; 32], i: usize, j: usize, n: usize) -> [u32; 32]
     requires { n ≤ 32 }
@@ -17,7 +19,7 @@ pub fn put_pair(t: [u32; 32], i: usize, j: usize, n: usize) -> [u32; 32]
     }
     let mut u = t;
     let row = t[i];
-    let more = rows::put(row, j);
+    let more = row.put(j);
     u[i] = more;
     u
 }

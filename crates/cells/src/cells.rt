@@ -8,6 +8,7 @@ ghost use Rattle.cells.specs.Cells.{no_limit, touches_in, weight_with_orderings_
 
 use chart::Chart;
 use half::{Half, weigh, weigh_both};
+use rows::Slots;
 
 // What a value lies between, if an item is kept and if it is dropped.
 #[derive(Clone, Copy)]
@@ -27,13 +28,13 @@ pub fn clash_row(t: &[u32; 32], i: usize, n: usize) -> u32
     let mut k: u32 = 0;
     let mut j: usize = 0;
     while j < n {
-        let x = rows::get(row, j);
+        let x = row.get(j);
         let back = t[j];
-        let y = rows::get(back, i);
+        let y = back.get(i);
         let z = rows::both(x, y);
         let o = rows::differ(i, j);
         let yes = rows::both(o, z);
-        k = rows::put_if(k, j, yes);
+        k = k.put_if(j, yes);
         j += 1;
     }
     k
@@ -48,12 +49,12 @@ pub fn touching(chart: &Chart, orderings: u64, options: u32) -> u64
     while u < chart.ordering_count {
         let a = chart.firsts[u] as usize;
         let b = chart.seconds[u] as usize;
-        let x = rows::get(options, a);
-        let y = rows::get(options, b);
+        let x = options.get(a);
+        let y = options.get(b);
         let z = rows::either(x, y);
-        let o = rows::get64(orderings, u);
+        let o = orderings.get(u);
         let yes = rows::both(o, z);
-        k = rows::put64_if(k, u, yes);
+        k = k.put_if(u, yes);
         u += 1;
     }
     k
@@ -84,12 +85,12 @@ pub fn option_limit(chart: &Chart, h: &Half, i: usize) -> Limit
     requires open_fits { OpenFits chart.now h.now × (i < chart.now.option_count) }
     ensures { result ≡ option_limit_in chart.now h.now i }
 {
-    if !rows::get(h.open_options, i) {
+    if !h.open_options.get(i) {
         return no_limit();
     }
     let clash = clash_row(&h.known, i, chart.option_count);
     let charged = weight_with_orderings(chart, h, clash);
-    let own = rows::put(0, i);
+    let own = 0u32.put(i);
     let forgone = weight_with_orderings(chart, h, own);
     let gain = chart.weights[i] as u32;
     let low = h.lower;
@@ -107,7 +108,7 @@ pub fn ordering_limit(chart: &Chart, h: &Half, u: usize) -> Limit
     requires open_fits { OpenFits chart.now h.now × (u < chart.now.ordering_count) }
     ensures { result ≡ ordering_limit_in chart.now h.now u }
 {
-    if !rows::get64(h.open_orderings, u) {
+    if !h.open_orderings.get(u) {
         return no_limit();
     }
     let x = chart.firsts[u] as usize;
@@ -116,8 +117,8 @@ pub fn ordering_limit(chart: &Chart, h: &Half, u: usize) -> Limit
     let after = clash_row(&h.known, y, chart.option_count);
     let clash = rows::join(before, after);
     let charged = weight_with_orderings(chart, h, clash);
-    let one = rows::put(0, x);
-    let two = rows::put(one, y);
+    let one = 0u32.put(x);
+    let two = one.put(y);
     let ends = rows::meet(h.open_options, two);
     let needed = weigh(ends as u64, &chart.weights, chart.option_count);
     let gain = chart.ordering_weights[u] as u32;

@@ -5,6 +5,7 @@ use crate::level::{Front, Goal, joined_rows, levels};
 use crate::member::end_of;
 use crate::walk::walk_back;
 use chart::Chart;
+use rows::Slots;
 
 // What the finder goes by: what is charged so far, the open options whose consequences still hold something, how much they hold, and between
 // which options an open ordering still holds something.
@@ -28,11 +29,11 @@ fn start(known: &[u32], a: usize, b: usize, meets: bool) -> Front
     requires { (32 ≤ length known.now) × (a < 32) × (b < 32) }
 {
     let reach = known[b];
-    let own = rows::put_if(0, b, meets);
+    let own = 0u32.put_if(b, meets);
     Front {
         reach,
         from: reach | own,
-        met_options: rows::put_if(0, a, !meets),
+        met_options: 0u32.put_if(a, !meets),
         met_seconds: own,
         options: 0,
         seconds: 0,
@@ -45,7 +46,7 @@ fn goal_of(after: &[u32], a: usize, meets: bool) -> Goal
     let before = after[a];
     Goal {
         before,
-        ends: rows::put_if(before, a, meets),
+        ends: before.put_if(a, meets),
     }
 }
 

@@ -4,6 +4,7 @@ ghost use Rattle.rows.specs.Sets.{Holds};
 ghost use Rattle.chains.specs.Held.{holds_some, Soft};
 
 use chart::Chart;
+use rows::Slots;
 
 // Whether something is left of item i.
 fn left_some(left: &[u32], i: usize) -> bool
@@ -21,10 +22,10 @@ fn holding(left: &[u32], open_items: u64, n: usize) -> u64
     let mut k: u64 = 0;
     let mut i: usize = 0;
     while i < n {
-        let here = rows::get64(open_items, i);
+        let here = open_items.get(i);
         let some = left_some(left, i);
         let yes = rows::both(here, some);
-        k = rows::put64_if(k, i, yes);
+        k = k.put_if(i, yes);
         i += 1;
     }
     k
@@ -54,10 +55,10 @@ pub fn positive_of(held: &[u32], open_options: u32, n: usize) -> u32
     let mut k: u32 = 0;
     let mut i: usize = 0;
     while i < n {
-        let here = rows::get(open_options, i);
+        let here = open_options.get(i);
         let some = left_some(held, i);
         let yes = rows::both(here, some);
-        k = rows::put_if(k, i, yes);
+        k = k.put_if(i, yes);
         i += 1;
     }
     k

@@ -4,6 +4,7 @@ ghost use Rattle.std.specs.Prelude.{◌+◌, ◌≤◌, ◌<◌, max, length};
 use crate::chain::{Chain, none};
 use crate::member::{end_at, end_of, lowest, without_lowest};
 use chart::Chart;
+use rows::Slots;
 
 // An item and what it holds; an item that holds nothing stands for none.
 #[derive(Clone, Copy)]
@@ -50,7 +51,7 @@ fn leads(chart: &Chart, u: usize, from: u32, to: u32) -> bool
 {
     let a = end_at(&chart.firsts, u);
     let b = end_at(&chart.seconds, u);
-    rows::get(from, a) && rows::get(to, b)
+    from.get(a) && to.get(b)
 }
 
 // The item given, or an ordering from one set to the other that holds more.
@@ -92,7 +93,7 @@ fn best_of_level(
     ensures { result.item < 32 + chart.now.ordering_count }
 {
     let into = after[t];
-    let ends = rows::put_if(into, t, meets);
+    let ends = into.put_if(t, meets);
     let k = best_option(at.options & into, held);
     best_ordering(chart, left_orderings, at.from, at.seconds & ends, k)
 }

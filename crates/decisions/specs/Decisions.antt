@@ -4,11 +4,10 @@ use Rattle.rules.specs.Slots.{every_of, list_of}
 use Rattle.given.specs.Given.{undecided}
 use Rattle.sheet.specs.declared.decision.Decision.{Decision}
 use Rattle.sheet.specs.declared.decision.Decision.TheVariants.{Open, Kept, Dropped}
-use Rattle.sheet.specs.declared.decision.Choice.{Choice}
 use Rattle.sheet.specs.declared.decision.Decisions.{Decisions}
 
-abbrev pub choice_of : ℕ → Choice
-choice_of b = cond (eqb b 1) (record { 0 = Kept }) (cond (eqb b 2) (record { 0 = Dropped }) (record { 0 = Open }))
+abbrev pub choice_of : ℕ → Decision
+choice_of b = cond (eqb b 1) Kept (cond (eqb b 2) Dropped Open)
 
 -- The list that the bytes spell.
 abbrev pub decisions_of : List ℕ → Decisions
@@ -22,13 +21,10 @@ unfoldable pub are_decisions : List ℕ → Bool
 are_decisions bytes = eqb (length bytes) 96 && every_of is_decision bytes
 
 -- And back.
-abbrev pub decision_byte : Decision → ℕ
-decision_byte Open = 0
-decision_byte Kept = 1
-decision_byte Dropped = 2
-
-abbrev pub byte_of : Choice → ℕ
-byte_of c = decision_byte c.0
+abbrev pub byte_of : Decision → ℕ
+byte_of Open = 0
+byte_of Kept = 1
+byte_of Dropped = 2
 
 abbrev pub option_bytes : Decisions → List ℕ
 option_bytes d = list_of 32 (λ i. byte_of (get_or d.options i undecided))

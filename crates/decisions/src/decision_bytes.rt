@@ -4,22 +4,22 @@ ghost use Rattle.rules.specs.Slots.{list_of};
 ghost use Rattle.decisions.specs.Decisions.{choice_of, decisions_of, are_decisions};
 
 use pieces::byte_at;
-use sheet::{Choice, Decision, Decisions, Slot};
+use sheet::{Decision, Decisions, Slot};
 
-fn choice_of(b: u8) -> Choice
+fn choice_of(b: u8) -> Decision
     ensures { result ≡ choice_of b }
 {
     if b == 1 {
-        return Choice(Decision::Kept);
+        return Decision::Kept;
     }
     if b == 2 {
-        return Choice(Decision::Dropped);
+        return Decision::Dropped;
     }
-    Choice(Decision::Open)
+    Decision::Open
 }
 
 // The decision about a slot, where the decisions of its kind begin at byte `at`.
-fn decision_at(bytes: &[u8], at: usize, slot: Slot) -> Choice
+fn decision_at(bytes: &[u8], at: usize, slot: Slot) -> Decision
     requires { (at ≤ 32) × (1 ≤ slot.0) }
     ensures { result ≡ choice_of (get_or bytes.now (at + (slot.0 - 1)) 0) }
 {
@@ -28,10 +28,10 @@ fn decision_at(bytes: &[u8], at: usize, slot: Slot) -> Choice
     choice_of(b)
 }
 
-fn options_of(bytes: &[u8]) -> [Choice; 32]
+fn options_of(bytes: &[u8]) -> [Decision; 32]
     ensures { result ≡ list_of 32 (λ i. choice_of (get_or bytes.now i 0)) }
 {
-    let o = Choice(Decision::Open);
+    let o = Decision::Open;
     let mut l = [o; 32];
     let mut i: usize = 0;
     while i < 32 {
@@ -43,10 +43,10 @@ fn options_of(bytes: &[u8]) -> [Choice; 32]
     l
 }
 
-fn orderings_of(bytes: &[u8]) -> [Choice; 64]
+fn orderings_of(bytes: &[u8]) -> [Decision; 64]
     ensures { result ≡ list_of 64 (λ u. choice_of (get_or bytes.now (32 + u) 0)) }
 {
-    let o = Choice(Decision::Open);
+    let o = Decision::Open;
     let mut l = [o; 64];
     let mut u: usize = 0;
     while u < 64 {

@@ -5,20 +5,19 @@ ghost use Rattle.given.specs.Given.{undecided};
 ghost use Rattle.print.specs.Put.{put};
 ghost use Rattle.decisions.specs.Decisions.{byte_of, decision_bytes};
 
-use sheet::{Choice, Decision, Decisions};
+use sheet::{Decision, Decisions};
 
-fn byte_of(c: Choice) -> u8
+fn byte_of(c: Decision) -> u8
     ensures { result ≡ byte_of c }
 {
-    let d = c.0;
-    match d {
+    match c {
         Decision::Open => 0,
         Decision::Kept => 1,
         Decision::Dropped => 2,
     }
 }
 
-fn put_options(options: [Choice; 32], out: &mut [u8])
+fn put_options(options: [Decision; 32], out: &mut [u8])
     requires { 96 ≤ length out.old }
     ensures { out.new ≡ put 0 (list_of 32 (λ i. byte_of (get_or options i undecided))) out.old }
 {
@@ -30,7 +29,7 @@ fn put_options(options: [Choice; 32], out: &mut [u8])
     }
 }
 
-fn put_orderings(orderings: [Choice; 64], out: &mut [u8])
+fn put_orderings(orderings: [Decision; 64], out: &mut [u8])
     requires { 96 ≤ length out.old }
     ensures { out.new ≡ put 32 (list_of 64 (λ u. byte_of (get_or orderings u undecided))) out.old }
 {

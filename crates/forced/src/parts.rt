@@ -6,6 +6,8 @@ ghost use Rattle.rows.specs.Sets.{Holds};
 ghost use Rattle.graph.specs.Graph.{EndsAreSlots};
 ghost use Rattle.forced.specs.Forced.{KeptWithEnds};
 
+use rows::Slots;
+
 // The kept options: those given, and both options of a kept ordering.
 pub fn kept_options(
     given: u32,
@@ -21,11 +23,11 @@ pub fn kept_options(
     let mut k = given;
     let mut u: usize = 0;
     while u < m {
-        let yes = rows::get64(kept_orderings, u);
+        let yes = kept_orderings.get(u);
         let a = first[u] as usize;
         let b = second[u] as usize;
-        let x = rows::put_if(k, a, yes);
-        k = rows::put_if(x, b, yes);
+        let x = k.put_if(a, yes);
+        k = x.put_if(b, yes);
         u += 1;
     }
     k
@@ -39,11 +41,11 @@ pub fn dropped_options(given: u32, t: [u32; 32], n: usize) -> u32
     let mut k: u32 = 0;
     let mut i: usize = 0;
     while i < n {
-        let g = rows::get(given, i);
+        let g = given.get(i);
         let row = t[i];
-        let o = rows::get(row, i);
+        let o = row.get(i);
         let yes = rows::either(g, o);
-        k = rows::put_if(k, i, yes);
+        k = k.put_if(i, yes);
         i += 1;
     }
     k
@@ -54,10 +56,10 @@ pub fn is_against(dropped: u32, t: [u32; 32], a: usize, b: usize) -> bool
     requires { (a < 32) × (b < 32) }
     ensures { result ≡ (has dropped a || (has dropped b || has (get_or t b 0) a)) }
 {
-    let x = rows::get(dropped, a);
-    let y = rows::get(dropped, b);
+    let x = dropped.get(a);
+    let y = dropped.get(b);
     let row = t[b];
-    let z = rows::get(row, a);
+    let z = row.get(a);
     let w = rows::either(y, z);
     rows::either(x, w)
 }
@@ -78,12 +80,12 @@ pub fn dropped_orderings(
     let mut k: u64 = 0;
     let mut u: usize = 0;
     while u < m {
-        let g = rows::get64(given, u);
+        let g = given.get(u);
         let a = first[u] as usize;
         let b = second[u] as usize;
         let o = is_against(dropped, t, a, b);
         let yes = rows::either(g, o);
-        k = rows::put64_if(k, u, yes);
+        k = k.put_if(u, yes);
         u += 1;
     }
     k
@@ -97,8 +99,8 @@ pub fn meets(a: u64, b: u64, n: usize) -> bool
     let mut r = false;
     let mut i: usize = 0;
     while i < n {
-        let x = rows::get64(a, i);
-        let y = rows::get64(b, i);
+        let x = a.get(i);
+        let y = b.get(i);
         let z = rows::both(x, y);
         let w = rows::either(r, z);
         r = w;

@@ -6,26 +6,22 @@ use Rattle.rows.specs.Sets.{Holds}
 use Rattle.rules.specs.Decisions as R
 use Rattle.sheet.specs.declared.decision.Decision.{Decision}
 use Rattle.sheet.specs.declared.decision.Decision.TheVariants as X
-use Rattle.sheet.specs.declared.decision.Choice.{Choice}
 use Rattle.sheet.specs.declared.decision.Decisions.{Decisions}
 use Rattle.given.specs.declared.sets.Given.{Given}
 
-abbrev pub decision : Decision → R.Decision
-decision X.Open = R.Open
-decision X.Kept = R.Kept
-decision X.Dropped = R.Dropped
-
-abbrev pub decided : Choice → R.Decision
-decided c = decision c.0
+abbrev pub decided : Decision → R.Decision
+decided X.Open = R.Open
+decided X.Kept = R.Kept
+decided X.Dropped = R.Dropped
 
 -- And back.
-abbrev pub choice_of : R.Decision → Choice
-choice_of R.Open = record { 0 = X.Open }
-choice_of R.Kept = record { 0 = X.Kept }
-choice_of R.Dropped = record { 0 = X.Dropped }
+abbrev pub choice_of : R.Decision → Decision
+choice_of R.Open = X.Open
+choice_of R.Kept = X.Kept
+choice_of R.Dropped = X.Dropped
 
-abbrev pub undecided : Choice
-undecided = record { 0 = X.Open }
+abbrev pub undecided : Decision
+undecided = X.Open
 
 abbrev pub decided_as : Decisions → DecidedBySlot
 decided_as d = record { option = λ i. decided (get_or d.options i undecided); ordering = λ u. decided (get_or d.orderings u undecided) }

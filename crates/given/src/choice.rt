@@ -3,35 +3,32 @@ ghost use Rattle.std.specs.Prelude.{◌≡◌};
 ghost use Rattle.rules.specs.Decisions.{is_open, is_kept, is_dropped};
 ghost use Rattle.given.specs.Given.{decided};
 
-use sheet::{Choice, Decision};
+use sheet::Decision;
 
-pub fn is_open(c: Choice) -> bool
+pub fn is_open(c: Decision) -> bool
     ensures { result ≡ is_open (decided c) }
 {
-    let d = c.0;
-    match d {
+    match c {
         Decision::Open => true,
         Decision::Kept => false,
         Decision::Dropped => false,
     }
 }
 
-pub fn is_kept(c: Choice) -> bool
+pub fn is_kept(c: Decision) -> bool
     ensures { result ≡ is_kept (decided c) }
 {
-    let d = c.0;
-    match d {
+    match c {
         Decision::Open => false,
         Decision::Kept => true,
         Decision::Dropped => false,
     }
 }
 
-pub fn is_dropped(c: Choice) -> bool
+pub fn is_dropped(c: Decision) -> bool
     ensures { result ≡ is_dropped (decided c) }
 {
-    let d = c.0;
-    match d {
+    match c {
         Decision::Open => false,
         Decision::Kept => false,
         Decision::Dropped => true,

@@ -3,7 +3,7 @@ ghost use Rattle.std.specs.Prelude.{◌≡◌, ◌+◌, ◌≤◌, ◌<◌, get_
 ghost use Rattle.given.specs.Given.{decided, undecided, some_past, some_open, decided_past, open_within};
 
 use crate::choice::is_open;
-use sheet::{Choice, Decisions};
+use sheet::{Decision, Decisions};
 
 pub fn is_past(i: usize, n: usize) -> bool
     ensures { result ≡ leb n i }
@@ -12,7 +12,7 @@ pub fn is_past(i: usize, n: usize) -> bool
 }
 
 // Is an entry for options past the first n decided?
-pub fn option_past(d: [Choice; 32], n: usize) -> bool
+pub fn option_past(d: [Decision; 32], n: usize) -> bool
     ensures { result ≡ some_past 32 n (λ i. decided (get_or d i undecided)) }
 {
     let mut r = false;
@@ -31,7 +31,7 @@ pub fn option_past(d: [Choice; 32], n: usize) -> bool
 }
 
 // Is an entry for orderings past the first m decided?
-pub fn ordering_past(d: [Choice; 64], m: usize) -> bool
+pub fn ordering_past(d: [Decision; 64], m: usize) -> bool
     ensures { result ≡ some_past 64 m (λ u. decided (get_or d u undecided)) }
 {
     let mut r = false;
@@ -61,7 +61,7 @@ pub fn has_decision_past(d: Decisions, n: usize, m: usize) -> bool
 }
 
 // Is an option among the first n open?
-pub fn open_option(d: [Choice; 32], n: usize) -> bool
+pub fn open_option(d: [Decision; 32], n: usize) -> bool
     requires { n ≤ 32 }
     ensures { result ≡ some_open n (λ i. decided (get_or d i undecided)) }
 {
@@ -78,7 +78,7 @@ pub fn open_option(d: [Choice; 32], n: usize) -> bool
 }
 
 // Is an ordering among the first m open?
-pub fn open_ordering(d: [Choice; 64], m: usize) -> bool
+pub fn open_ordering(d: [Decision; 64], m: usize) -> bool
     requires { m ≤ 64 }
     ensures { result ≡ some_open m (λ u. decided (get_or d u undecided)) }
 {

@@ -5,7 +5,8 @@ ghost use Rattle.rows.specs.Sets.{Holds};
 ghost use Rattle.given.specs.Given.{decided, undecided, decided_as, Gives};
 
 use crate::choice::{is_dropped, is_kept};
-use sheet::{Choice, Decisions};
+use rows::Slots;
+use sheet::{Decision, Decisions};
 
 // What a decision list keeps and drops by itself, before anything is forced.
 #[derive(Clone, Copy)]
@@ -17,7 +18,7 @@ pub struct Given {
 }
 
 // The options that a list keeps.
-pub fn options_kept(d: [Choice; 32], n: usize) -> u32
+pub fn options_kept(d: [Decision; 32], n: usize) -> u32
     requires { n ≤ 32 }
     ensures { Holds result n (λ i. is_kept (decided (get_or d i undecided))) }
 {
@@ -26,14 +27,14 @@ pub fn options_kept(d: [Choice; 32], n: usize) -> u32
     while i < n {
         let c = d[i];
         let yes = is_kept(c);
-        k = rows::put_if(k, i, yes);
+        k = k.put_if(i, yes);
         i += 1;
     }
     k
 }
 
 // The options that a list drops.
-pub fn options_dropped(d: [Choice; 32], n: usize) -> u32
+pub fn options_dropped(d: [Decision; 32], n: usize) -> u32
     requires { n ≤ 32 }
     ensures { Holds result n (λ i. is_dropped (decided (get_or d i undecided))) }
 {
@@ -42,14 +43,14 @@ pub fn options_dropped(d: [Choice; 32], n: usize) -> u32
     while i < n {
         let c = d[i];
         let yes = is_dropped(c);
-        k = rows::put_if(k, i, yes);
+        k = k.put_if(i, yes);
         i += 1;
     }
     k
 }
 
 // The orderings that a list keeps.
-pub fn orderings_kept(d: [Choice; 64], m: usize) -> u64
+pub fn orderings_kept(d: [Decision; 64], m: usize) -> u64
     requires { m ≤ 64 }
     ensures { Holds result m (λ u. is_kept (decided (get_or d u undecided))) }
 {
@@ -58,14 +59,14 @@ pub fn orderings_kept(d: [Choice; 64], m: usize) -> u64
     while u < m {
         let c = d[u];
         let yes = is_kept(c);
-        k = rows::put64_if(k, u, yes);
+        k = k.put_if(u, yes);
         u += 1;
     }
     k
 }
 
 // The orderings that a list drops.
-pub fn orderings_dropped(d: [Choice; 64], m: usize) -> u64
+pub fn orderings_dropped(d: [Decision; 64], m: usize) -> u64
     requires { m ≤ 64 }
     ensures { Holds result m (λ u. is_dropped (decided (get_or d u undecided))) }
 {
@@ -74,7 +75,7 @@ pub fn orderings_dropped(d: [Choice; 64], m: usize) -> u64
     while u < m {
         let c = d[u];
         let yes = is_dropped(c);
-        k = rows::put64_if(k, u, yes);
+        k = k.put_if(u, yes);
         u += 1;
     }
     k

@@ -6,6 +6,8 @@ mod table;
 ghost use Rattle.std.specs.Prelude.{◌+◌, ◌≤◌, ◌<◌};
 ghost use Rattle.graph.specs.Graph.{EndsAreSlots, WithOrderings, JoinedThrough, JoinedThroughAll};
 
+use rows::Slots;
+
 pub use table::transposed;
 
 // The table with the kept orderings in it.
@@ -23,11 +25,11 @@ pub fn put_orderings(
     let mut k = t;
     let mut u: usize = 0;
     while u < m {
-        let yes = rows::get64(kept_orderings, u);
+        let yes = kept_orderings.get(u);
         let a = first[u] as usize;
         let b = second[u] as usize;
         let row = k[a];
-        let more = rows::put_if(row, b, yes);
+        let more = row.put_if(b, yes);
         k[a] = more;
         u += 1;
     }
@@ -44,7 +46,7 @@ pub fn join_through(t: [u32; 32], c: usize, n: usize) -> [u32; 32]
     let mut i: usize = 0;
     while i < n {
         let row = t[i];
-        let yes = rows::get(row, c);
+        let yes = row.get(c);
         let more = rows::join_if(row, from, yes);
         k[i] = more;
         i += 1;
@@ -60,7 +62,7 @@ pub fn join_through_all(t: [u32; 32], middles: u32, n: usize) -> [u32; 32]
     let mut k = t;
     let mut c: usize = 0;
     while c < n {
-        if rows::get(middles, c) {
+        if middles.get(c) {
             let v = join_through(k, c, n);
             k = v;
         }

@@ -3,6 +3,8 @@ ghost use Rattle.std.specs.Prelude.{◌≤◌, ◌<◌, length};
 ghost use Rattle.rows.specs.Sets.{Holds, cell};
 ghost use Rattle.graph.specs.Transposed.{Transposed};
 
+use rows::Slots;
+
 // The options below n whose row holds j.
 pub fn column(known: &[u32], j: usize, n: usize) -> u32
     requires { (n ≤ 32) × (n ≤ length known.now) × (j < n) }
@@ -12,8 +14,8 @@ pub fn column(known: &[u32], j: usize, n: usize) -> u32
     let mut i: usize = 0;
     while i < n {
         let row = known[i];
-        let yes = rows::get(row, j);
-        k = rows::put_if(k, i, yes);
+        let yes = row.get(j);
+        k = k.put_if(i, yes);
         i += 1;
     }
     k

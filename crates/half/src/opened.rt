@@ -7,6 +7,7 @@ ghost use Rattle.half.specs.Half.{HalfDecidedAs};
 use crate::weights::{weigh_all, weigh_both};
 use chart::Chart;
 use forced::Forced;
+use rows::Slots;
 
 // What the limits are worked out from: the open items, what is known, the weight kept and the weight not dropped.
 #[derive(Clone, Copy)]
@@ -25,10 +26,10 @@ pub fn open_options(kept: u32, dropped: u32, n: usize) -> u32
     let mut k: u32 = 0;
     let mut i: usize = 0;
     while i < n {
-        let x = rows::get(kept, i);
-        let y = rows::get(dropped, i);
+        let x = kept.get(i);
+        let y = dropped.get(i);
         let yes = rows::neither(x, y);
-        k = rows::put_if(k, i, yes);
+        k = k.put_if(i, yes);
         i += 1;
     }
     k
@@ -41,10 +42,10 @@ pub fn open_orderings(kept: u64, dropped: u64, m: usize) -> u64
     let mut k: u64 = 0;
     let mut u: usize = 0;
     while u < m {
-        let x = rows::get64(kept, u);
-        let y = rows::get64(dropped, u);
+        let x = kept.get(u);
+        let y = dropped.get(u);
         let yes = rows::neither(x, y);
-        k = rows::put64_if(k, u, yes);
+        k = k.put_if(u, yes);
         u += 1;
     }
     k

@@ -6,6 +6,7 @@ ghost use Rattle.half.specs.Half.{weight_of_sets};
 ghost use Rattle.half.specs.Weights.{largest_sum};
 
 use chart::Chart;
+use rows::Slots;
 
 // A weight if asked, and else nothing.
 pub fn weight_if(yes: bool, w: u16) -> u32
@@ -22,7 +23,7 @@ pub fn weigh(set: u64, w: &[u16], n: usize) -> u32
     let mut s: u32 = 0;
     let mut i: usize = 0;
     while i < n {
-        let yes = rows::get64(set, i);
+        let yes = set.get(i);
         let x = w[i];
         let y = weight_if(yes, x);
         s += y;

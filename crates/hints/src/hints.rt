@@ -4,6 +4,7 @@ ghost use Rattle.std.specs.Prelude.{◌≡◌, ◌+◌, ◌≤◌, length};
 use chains::Hints;
 use chart::Chart;
 use residual::Left;
+use rows::Slots;
 use std::num::wrapping_add_u32;
 
 // What an ordering holds counts at both its ends.
@@ -75,7 +76,7 @@ fn holds_some(positive: u32, orderings: &[u32], m: usize, x: usize) -> bool
     requires { m ≤ length orderings.now }
 {
     if x < 32 {
-        return rows::get(positive, x);
+        return positive.get(x);
     }
     if x < 32 + m {
         return 0 < orderings[x - 32];

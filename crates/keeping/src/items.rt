@@ -3,6 +3,7 @@ ghost use Rattle.std.specs.Prelude.{◌≡◌, ◌<◌};
 ghost use Rattle.keeping.specs.Sets.{nothing_given, with_item_kept, with_item_dropped};
 
 use given::Given;
+use rows::Slots;
 
 // Nothing is decided.
 pub fn nothing_given() -> Given
@@ -22,9 +23,9 @@ pub fn keep_item(g: Given, x: usize) -> Given
 {
     let mut r = g;
     if x < 32 {
-        r.kept = rows::put(g.kept, x);
+        r.kept = g.kept.put(x);
     } else {
-        r.kept_orderings = rows::put64(g.kept_orderings, x - 32);
+        r.kept_orderings = g.kept_orderings.put(x - 32);
     }
     r
 }
@@ -35,9 +36,9 @@ pub fn drop_item(g: Given, x: usize) -> Given
 {
     let mut r = g;
     if x < 32 {
-        r.dropped = rows::put(g.dropped, x);
+        r.dropped = g.dropped.put(x);
     } else {
-        r.dropped_orderings = rows::put64(g.dropped_orderings, x - 32);
+        r.dropped_orderings = g.dropped_orderings.put(x - 32);
     }
     r
 }

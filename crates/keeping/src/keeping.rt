@@ -11,6 +11,7 @@ use given::Given;
 use half::Half;
 use loose::{ends_of, is_loose};
 use residual::{Left, held_by};
+use rows::Slots;
 
 // A set, and whether it is more than it was.
 #[derive(Clone, Copy)]
@@ -73,7 +74,7 @@ fn keeps_option(
     requires { LeftFor chart.now left.now × (i < chart.now.option_count) }
     ensures { OnlyIf result (T (has o.options i) × MayKeep chart.now known.now after.now o.options o.begins o.ends left.now o.spare i) }
 {
-    let open = rows::get(o.options, i);
+    let open = o.options.get(i);
     if !open {
         return false;
     }
@@ -92,7 +93,7 @@ fn keeps_ordering(
     requires { LeftFor chart.now left.now × (u < chart.now.ordering_count) }
     ensures { OnlyIf result (T (has o.orderings u) × MayKeep chart.now known.now after.now o.options o.begins o.ends left.now o.spare (32 + u)) }
 {
-    let open = rows::get64(o.orderings, u);
+    let open = o.orderings.get(u);
     if !open {
         return false;
     }
@@ -115,7 +116,7 @@ fn keep_options(
     let mut i: usize = 0;
     while i < chart.option_count {
         let yes = keeps_option(chart, known, after, o, left, i);
-        set = rows::put_if(set, i, yes);
+        set = set.put_if(i, yes);
         more = rows::either(more, yes);
         i += 1;
     }
@@ -141,7 +142,7 @@ fn keep_orderings(
     let mut u: usize = 0;
     while u < chart.ordering_count {
         let yes = keeps_ordering(chart, known, after, o, left, u);
-        set = rows::put64_if(set, u, yes);
+        set = set.put_if(u, yes);
         more = rows::either(more, yes);
         u += 1;
     }

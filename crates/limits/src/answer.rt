@@ -5,7 +5,7 @@ ghost use Rattle.limits.specs.Answer.{nothing_limited, limits_refused, limits_an
 use crate::whole::{Limited, limits_of};
 use cells::no_limit;
 use shape::Place;
-use sheet::{Answer, Choice, Decision, Decisions, Refusal, Sheet};
+use sheet::{Answer, Decision, Decisions, Refusal, Sheet};
 
 #[derive(Clone, Copy)]
 pub struct LimitsAnswer {
@@ -16,7 +16,7 @@ pub struct LimitsAnswer {
 fn nothing() -> Limited
     ensures { result ≡ nothing_limited }
 {
-    let o = Choice(Decision::Open);
+    let o = Decision::Open;
     let e = Decisions {
         options: [o; 32],
         orderings: [o; 64],

@@ -9,7 +9,7 @@ use cells::{Limit, no_limit, option_limit, ordering_limit};
 use chart::Chart;
 use given::Given;
 use half::Half;
-use sheet::{Choice, Decision, Decisions};
+use sheet::{Decision, Decisions};
 
 // The whole answer: forced decisions, and what the values lie between.
 #[derive(Clone, Copy)]
@@ -56,7 +56,7 @@ pub fn ordering_limits(chart: &Chart, h: &Half) -> [Limit; 64]
 pub fn contradictory() -> Limited
     ensures { result ≡ contradictory }
 {
-    let o = Choice(Decision::Open);
+    let o = Decision::Open;
     let e = Decisions {
         options: [o; 32],
         orderings: [o; 64],

@@ -4,6 +4,7 @@ ghost use Rattle.numbered.specs.Items.{Named};
 ghost use Rattle.links.specs.Links.{AreSlots, OptionAt, linked_in};
 
 use chart::Chart;
+use rows::Slots;
 
 // The option at which item x begins or ends: an option itself, an ordering's own in `ends`.
 pub fn option_at(ends: &[u8], n: usize, m: usize, x: u8) -> u8
@@ -21,7 +22,7 @@ pub fn is_linked(chart: &Chart, known: &[u32], x: u8, y: u8) -> bool
     let o = option_at(&chart.seconds, chart.option_count, chart.ordering_count, x);
     let i = option_at(&chart.firsts, chart.option_count, chart.ordering_count, y);
     let row = known[o as usize];
-    if rows::get(row, i as usize) {
+    if row.get(i as usize) {
         return true;
     }
     if x < 32 {

@@ -8,7 +8,7 @@ ghost use Rattle.listing.specs.Appended.{Room, Appended};
 
 use given::is_dropped;
 use print::{put_one, put_two};
-use sheet::{Choice, Number};
+use sheet::{Decision, Number};
 
 // Prints a place and the option that stands there, or nothing where none does.
 pub fn put_place(page: &mut [u8], at: usize, place: usize, option: u8) -> usize
@@ -22,7 +22,7 @@ pub fn put_place(page: &mut [u8], at: usize, place: usize, option: u8) -> usize
 }
 
 // Prints an option if it is dropped.
-pub fn put_option(page: &mut [u8], at: usize, choice: Choice, option: u8) -> usize
+pub fn put_option(page: &mut [u8], at: usize, choice: Decision, option: u8) -> usize
     requires { Room page.old at (unless (not (is_dropped (decided choice))) (line_text 68 (option ∷ []))) }
     ensures { Appended page.old page.new at result (unless (not (is_dropped (decided choice))) (line_text 68 (option ∷ []))) }
 {
@@ -33,7 +33,7 @@ pub fn put_option(page: &mut [u8], at: usize, choice: Choice, option: u8) -> usi
 }
 
 // Prints an ordering if it is dropped.
-pub fn put_ordering(page: &mut [u8], at: usize, choice: Choice, first: u8, second: u8) -> usize
+pub fn put_ordering(page: &mut [u8], at: usize, choice: Decision, first: u8, second: u8) -> usize
     requires { Room page.old at (unless (not (is_dropped (decided choice))) (line_text 82 (first ∷ second ∷ []))) }
     ensures { Appended page.old page.new at result (unless (not (is_dropped (decided choice))) (line_text 82 (first ∷ second ∷ []))) }
 {
@@ -62,7 +62,7 @@ pub fn put_places(page: &mut [u8], at: usize, places: [Number; 32]) -> usize
 pub fn put_options(
     page: &mut [u8],
     at: usize,
-    options: [Choice; 32],
+    options: [Decision; 32],
     numbers: &[u8],
     n: usize,
 ) -> usize
@@ -84,7 +84,7 @@ pub fn put_options(
 pub fn put_orderings(
     page: &mut [u8],
     at: usize,
-    orderings: [Choice; 64],
+    orderings: [Decision; 64],
     firsts: &[u8],
     seconds: &[u8],
     m: usize,

@@ -5,6 +5,7 @@ ghost use Rattle.links.specs.Links.{OnlyIf};
 ghost use Rattle.loose.specs.Loose.{ClosedEnds, FreeSide, LooseBy};
 
 use chart::Chart;
+use rows::Slots;
 
 // By the row of what lies on that side of option o, where item x ends: no open option in it, no open ordering that sets out from it and,
 // if x is an ordering itself, none from o. `ends` are the options from which open orderings set out on that side.
@@ -20,7 +21,7 @@ pub fn is_free(row: u32, opens: u32, ends: u32, o: u8, x: u8) -> bool
     if x < 32 {
         return true;
     }
-    !rows::get(ends, o as usize)
+    !ends.get(o as usize)
 }
 
 // An option stands by itself; an ordering only if both its options are decided.
@@ -31,8 +32,8 @@ pub fn has_closed_ends(opens: u32, a: u8, b: u8, x: u8) -> bool
     if x < 32 {
         return true;
     }
-    let p = rows::get(opens, a as usize);
-    let q = rows::get(opens, b as usize);
+    let p = opens.get(a as usize);
+    let q = opens.get(b as usize);
     rows::neither(p, q)
 }
 

@@ -2,6 +2,8 @@
 ghost use Rattle.std.specs.Prelude.{◌≤◌, length};
 ghost use Rattle.picks.specs.Picked.{OneOf};
 
+use rows::Slots;
+
 // The first member below n of the greatest value; n where there is none.
 pub fn greatest(values: &[u32], set: u64, n: usize) -> usize
     requires { (n ≤ 64) × (n ≤ length values.now) }
@@ -12,7 +14,7 @@ pub fn greatest(values: &[u32], set: u64, n: usize) -> usize
     let mut i: usize = 0;
     while i < n {
         let v = values[i];
-        let here = rows::get64(set, i);
+        let here = set.get(i);
         let free = at == n;
         let more = v > best;
         let wanted = rows::either(free, more);

@@ -3,6 +3,7 @@ ghost use Rattle.std.specs.Prelude.{◌<◌, ◌≤◌, length};
 
 use chains::{end_at, lowest, without_lowest};
 use chart::Chart;
+use rows::Slots;
 use std::num::wrapping_add_u32;
 
 // How many open orderings begin, or end, at each option.
@@ -14,7 +15,7 @@ pub fn counted(ends: &[u8], open_orderings: u64, m: usize) -> [u32; 32]
     while u < m {
         let i = end_at(ends, u);
         let c = t[i];
-        if rows::get64(open_orderings, u) {
+        if open_orderings.get(u) {
             t[i] = wrapping_add_u32(c, 1);
         }
         u += 1;
@@ -102,7 +103,7 @@ pub fn ordering_scores(
     let mut t: [u32; 64] = [0; 64];
     let mut u: usize = 0;
     while u < chart.ordering_count {
-        if rows::get64(open_orderings, u) {
+        if open_orderings.get(u) {
             let a = end_at(&chart.firsts, u);
             let b = end_at(&chart.seconds, u);
             let s = ordering_score(chart.rows[b], after[a], starts, stops, a, b);

@@ -5,6 +5,7 @@ ghost use Rattle.rows.specs.Bits.{has};
 ghost use Rattle.rows.specs.Sets.{cell};
 ghost use Rattle.placing.specs.Next.{is_ready, smaller_slot, smallest_below, numbers_placed, number, written};
 
+use rows::Slots;
 use sheet::Number;
 
 // Does an option that is left stand before x?
@@ -15,9 +16,9 @@ fn waits(t: [u32; 32], left: u32, x: usize, n: usize) -> bool
     let mut r = false;
     let mut y: usize = 0;
     while y < n {
-        let a = rows::get(left, y);
+        let a = left.get(y);
         let row = t[y];
-        let b = rows::get(row, x);
+        let b = row.get(x);
         let z = rows::both(a, b);
         let w = rows::either(r, z);
         r = w;
@@ -31,7 +32,7 @@ fn can_be_next(t: [u32; 32], left: u32, numbers: &[u8], x: usize, n: usize) -> b
     requires { (n ≤ 32) × (x < 32) }
     ensures { result ≡ is_ready t numbers.now n left x }
 {
-    let a = rows::get(left, x);
+    let a = left.get(x);
     let w = waits(t, left, x, n);
     let o = rows::opposite(w);
     rows::both(a, o)

@@ -3,6 +3,7 @@ ghost use Rattle.std.specs.Prelude.{◌≤◌, length};
 ghost use Rattle.residual.specs.Started.{StartsAs};
 
 use chart::Chart;
+use rows::Slots;
 
 // What is left to charge of each item's weight.
 #[derive(Clone, Copy)]
@@ -18,7 +19,7 @@ pub fn start_options(set: u32, weights: &[u16], n: usize) -> [u32; 32]
     let mut left: [u32; 32] = [0; 32];
     let mut i: usize = 0;
     while i < n {
-        let yes = rows::get(set, i);
+        let yes = set.get(i);
         left[i] = half::weight_if(yes, weights[i]);
         i += 1;
     }
@@ -32,7 +33,7 @@ pub fn start_orderings(set: u64, weights: &[u16], m: usize) -> [u32; 64]
     let mut left: [u32; 64] = [0; 64];
     let mut u: usize = 0;
     while u < m {
-        let yes = rows::get64(set, u);
+        let yes = set.get(u);
         left[u] = half::weight_if(yes, weights[u]);
         u += 1;
     }

@@ -2,84 +2,79 @@
 // For the crates above: a slot handed in must be one of the word's.
 #![tactic(auto)]
 
+mod chosen;
+mod options;
 mod tests;
 
-ghost use Rattle.std.specs.Prelude.{◌≡◌, ◌<◌};
-ghost use Rattle.rows.specs.Bits.{has, joined, met, with, with_if, joined_if, turned};
+ghost use Rattle.std.specs.Prelude.{◌≡◌, ℕ, ◌<◌};
+ghost use Rattle.rows.specs.Bits.{has, with, with_if};
 
+pub use chosen::set_where;
+pub use options::{join, join_if, meet, turn};
 pub use tests::{both, differ, either, neither, opposite};
 
-// Whether the row holds slot i.
-pub fn get(row: u32, i: usize) -> bool
-    requires { i < 32 }
-    ensures { result ≡ has row i }
-{
-    (row >> i) % 2 == 1
+// A set of slots, as the bits of a word.
+pub trait Slots: Copy {
+    // The word as a number, and how many slots it has.
+    ghost bits: { Self → ℕ };
+
+    ghost width: { ℕ };
+
+    // Whether slot i is in the set.
+    fn get(self, i: usize) -> bool
+        requires { i < width }
+        ensures { result ≡ has (bits self) i };
+
+    // The set with slot i in it.
+    fn put(self, i: usize) -> Self
+        requires { i < width }
+        ensures { bits result ≡ with (bits self) i };
+
+    // The set with slot i in it, if asked.
+    fn put_if(self, i: usize, yes: bool) -> Self
+        requires { i < width }
+        ensures { bits result ≡ with_if (bits self) i yes }
+    {
+        if yes { self.put(i) } else { self }
+    }
+
+    // No slot.
+    fn none() -> Self
+        ensures { bits result ≡ 0 };
 }
 
-// The row with slot i in it.
-pub fn put(row: u32, i: usize) -> u32
-    requires { i < 32 }
-    ensures { result ≡ with row i }
-{
-    row | (1 << i)
+impl Slots for u32 {
+    ghost bits = { λ x. x };
+
+    ghost width = { 32 };
+
+    fn get(self, i: usize) -> bool {
+        (self >> i) % 2 == 1
+    }
+
+    fn put(self, i: usize) -> u32 {
+        self | (1 << i)
+    }
+
+    fn none() -> u32 {
+        0
+    }
 }
 
-// The row with slot i in it, if asked.
-pub fn put_if(row: u32, i: usize, yes: bool) -> u32
-    requires { i < 32 }
-    ensures { result ≡ with_if row i yes }
-{
-    if yes { put(row, i) } else { row }
-}
+impl Slots for u64 {
+    ghost bits = { λ x. x };
 
-// What either row holds.
-pub fn join(a: u32, b: u32) -> u32
-    ensures { result ≡ joined a b }
-{
-    a | b
-}
+    ghost width = { 64 };
 
-// What a holds, and b too, if asked.
-pub fn join_if(a: u32, b: u32, yes: bool) -> u32
-    ensures { result ≡ joined_if a b yes }
-{
-    if yes { join(a, b) } else { a }
-}
+    fn get(self, i: usize) -> bool {
+        (self >> i) % 2 == 1
+    }
 
-// What both rows hold.
-pub fn meet(a: u32, b: u32) -> u32
-    ensures { result ≡ met a b }
-{
-    a & b
-}
+    fn put(self, i: usize) -> u64 {
+        self | (1 << i)
+    }
 
-// The same for sets of orderings.
-pub fn get64(row: u64, i: usize) -> bool
-    requires { i < 64 }
-    ensures { result ≡ has row i }
-{
-    (row >> i) % 2 == 1
-}
-
-pub fn put64(row: u64, i: usize) -> u64
-    requires { i < 64 }
-    ensures { result ≡ with row i }
-{
-    row | (1 << i)
-}
-
-pub fn put64_if(row: u64, i: usize, yes: bool) -> u64
-    requires { i < 64 }
-    ensures { result ≡ with_if row i yes }
-{
-    if yes { put64(row, i) } else { row }
-}
-
-// The row with slot i turned: out if it was in.
-pub fn turn(row: u32, i: usize) -> u32
-    requires { i < 32 }
-    ensures { result ≡ turned row i }
-{
-    row ^ (1 << i)
+    fn none() -> u64 {
+        0
+    }
 }

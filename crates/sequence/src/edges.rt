@@ -5,6 +5,8 @@ ghost use Rattle.rows.specs.Sets.{cell};
 ghost use Rattle.graph.specs.Graph.{EndsAreSlots};
 ghost use Rattle.sequence.specs.Edges.{BetweenKept, lacks};
 
+use rows::Slots;
+
 // The table without the rows and columns of options that are not kept.
 pub fn between_kept(t: [u32; 32], kept: u32, n: usize) -> [u32; 32]
     requires { n ≤ 32 }
@@ -15,7 +17,7 @@ pub fn between_kept(t: [u32; 32], kept: u32, n: usize) -> [u32; 32]
     while i < n {
         let row = t[i];
         let x = rows::meet(row, kept);
-        let yes = rows::get(kept, i);
+        let yes = kept.get(i);
         let y = rows::join_if(0, x, yes);
         k[i] = y;
         i += 1;
@@ -40,11 +42,11 @@ pub fn lacks_option(
     while u < m {
         let a = first[u] as usize;
         let b = second[u] as usize;
-        let x = rows::get(kept, a);
-        let y = rows::get(kept, b);
+        let x = kept.get(a);
+        let y = kept.get(b);
         let z = rows::both(x, y);
         let o = rows::opposite(z);
-        let k = rows::get64(kept_orderings, u);
+        let k = kept_orderings.get(u);
         let w = rows::both(k, o);
         let e = rows::either(r, w);
         r = e;
@@ -62,7 +64,7 @@ pub fn has_cycle(t: [u32; 32], n: usize) -> bool
     let mut i: usize = 0;
     while i < n {
         let row = t[i];
-        let x = rows::get(row, i);
+        let x = row.get(i);
         let e = rows::either(r, x);
         r = e;
         i += 1;

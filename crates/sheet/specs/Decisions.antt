@@ -5,4 +5,4 @@ use Rattle.sheet.specs.declared.decision.Decisions.{Decisions}
 use Rattle.sheet.specs.Limits.{option_limit, ordering_limit}
 
 abbrev pub all_open : Decisions
-all_open = record { options = replicate option_limit (record { 0 = Open }); orderings = replicate ordering_limit (record { 0 = Open }) }
+all_open = record { options = replicate option_limit Open; orderings = replicate ordering_limit Open }

@@ -2,22 +2,18 @@
 ghost use Rattle.std.specs.Prelude.{◌≡◌};
 ghost use Rattle.sheet.specs.Decisions.{all_open};
 
-#[derive(Clone, Copy)]
+#[derive(Clone, Copy, Debug, PartialEq, Eq)]
 pub enum Decision {
     Open,
     Kept,
     Dropped,
 }
 
-// A decision as an entry of a list.
-#[derive(Clone, Copy)]
-pub struct Choice(pub Decision);
-
 // One entry for each slot, by the order of the F lines and of the U lines.
 #[derive(Clone, Copy)]
 pub struct Decisions {
-    pub options: [Choice; 32],
-    pub orderings: [Choice; 64],
+    pub options: [Decision; 32],
+    pub orderings: [Decision; 64],
 }
 
 impl Decisions {
@@ -26,8 +22,8 @@ impl Decisions {
         ensures { result ≡ all_open }
     {
         Decisions {
-            options: [Choice(Decision::Open); 32],
-            orderings: [Choice(Decision::Open); 64],
+            options: [Decision::Open; 32],
+            orderings: [Decision::Open; 64],
         }
     }
 }

@@ -9,6 +9,6 @@ mod sheet;
 
 pub use answer::{Answer, Refusal, number_of};
 pub use count::{Number, Position, Slot};
-pub use decision::{Choice, Decision, Decisions};
+pub use decision::{Decision, Decisions};
 pub use judged::Judged;
 pub use sheet::Sheet;

@@ -4,10 +4,10 @@ use Rattle.std.proofs.Math.Path.{refl}
 use Rattle.std.proofs.Common.{ap, ◌∙◌, arith, add-one, eq-eqb, ne_eqb, lt-ltb, le-ltb, drop_of_length-le, drop-cons}
 use Rattle.rules.specs.Slots.{every_of}
 use Rattle.decisions.specs.Decisions.{choice_of, is_decision, are_decisions}
-use Rattle.sheet.specs.declared.decision.Choice.{Choice}
+use Rattle.sheet.specs.declared.decision.Decision.{Decision}
 
 module _ (bytes : List ℕ) where
-  pub decision_there : (at i k : ℕ) {c : Choice} → c ≡ choice_of (get_or bytes (at + (i + 1 - 1)) 0) → k ≡ at + i → c ≡ choice_of (get_or bytes k 0)
+  pub decision_there : (at i k : ℕ) {c : Decision} → c ≡ choice_of (get_or bytes (at + (i + 1 - 1)) 0) → k ≡ at + i → c ≡ choice_of (get_or bytes k 0)
   decision_there at i k e h = let g : at + (i + 1 - 1) ≡ k = omega arith in e ∙ ap (λ j. choice_of (get_or bytes j 0)) g
 
   pub wrong_number : (length bytes ≡ 96 → ⊥) → false ≡ are_decisions bytes

@@ -7,4 +7,4 @@ pub loop-u-init : goal.loop-u-init
 loop-u-init c = (omega arith, with_orderings_none _ _ _ _ (omega arith))
 
 pub loop-u-preserved : goal.loop-u-preserved
-loop-u-preserved c = (omega arith, with_orderings_step _ _ _ _ c.loop-u.invariant.1 c.get64-yes.ensures (omega (arith, c.requires.first _ c.loop-u-test.true)) c.put_if-more.ensures)
+loop-u-preserved c = (omega arith, with_orderings_step _ _ _ _ c.loop-u.invariant.1 c.get-yes.ensures (omega (arith, c.requires.first _ c.loop-u-test.true)) c.put_if-more.ensures)

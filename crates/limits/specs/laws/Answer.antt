@@ -24,7 +24,7 @@ use Rattle.subscription.specs.laws.Charted.{counted_is}
 use Rattle.rules.specs.Decisions as R
 use Rattle.rules.specs.Results as R'
 use Rattle.sheet.specs.declared.answer.Refusal.TheVariants.{NotRecorded, WrongDecisions}
-use Rattle.sheet.specs.declared.decision.Choice.{Choice}
+use Rattle.sheet.specs.declared.decision.Decision.{Decision}
 use Rattle.given.specs.declared.sets.Given.{Given}
 use Rattle.chart.specs.declared.chart.Chart.{Chart}
 use Rattle.sheet.specs.declared.sheet.Sheet.{Sheet}
@@ -42,7 +42,7 @@ module _ (s : Lines) (l : List R.Decision) where
   abbrev n : ℕ
   n = length s.options
 
-  same_parts : {x y : List Choice} {x' y' : List Choice} {o u o' u' : List Limit} {t : Bool} {k a : ℕ} → x ≡ x' → y ≡ y' → o ≡ o' → u ≡ u'
+  same_parts : {x y : List Decision} {x' y' : List Decision} {o u o' u' : List Limit} {t : Bool} {k a : ℕ} → x ≡ x' → y ≡ y' → o ≡ o' → u ≡ u'
       → ◌≡◌ {A = Limited} (record { contradiction = t; decisions = record { options = x; orderings = y }; lower = k; upper = a; options = o; orderings = u })
       (record { contradiction = t; decisions = record { options = x'; orderings = y' }; lower = k; upper = a; options = o'; orderings = u' })
   same_parts p q r w = rw (p, q, r, w) refl

@@ -19,7 +19,7 @@ use Rattle.limits.specs.Limited.{contradictory, limited_as, LimitedBy}
 use Rattle.half.specs.laws.Shown.{K_is, M_less_D_is}
 use Rattle.given.specs.laws.Filled.{filled_same}
 use Rattle.cells.proofs.laws.Table.{option_limit_is, ordering_limit_is}
-use Rattle.sheet.specs.declared.decision.Choice.{Choice}
+use Rattle.sheet.specs.declared.decision.Decision.{Decision}
 use Rattle.chart.specs.declared.chart.Chart.{Chart}
 use Rattle.given.specs.declared.sets.Given.{Given}
 use Rattle.limits.specs.declared.whole.Limited.{Limited}
@@ -50,7 +50,7 @@ module _ (chart : Chart) (g : Given) (f : Forced) (by : ForcedBy chart g f) wher
   limited_contradiction e v b shows weighs gives = rw (sym (by v b shows gives).contradicts ∙ e) refl
 
   pub limited_otherwise : (h : Half) → HalfDecidedAs chart f h → f.contradiction ≡ false
-      → {o u : List Choice} {x y : List Limit}
+      → {o u : List Decision} {x y : List Limit}
       → o ≡ filled 32 n (λ i. choice_of (decision_of (has f.kept i) (has f.dropped i))) undecided
       → u ≡ filled 64 m (λ j. choice_of (decision_of (has f.kept_orderings j) (has f.dropped_orderings j))) undecided
       → x ≡ filled 32 n (option_limit_in chart h) no_limit
@@ -68,7 +68,7 @@ module _ (chart : Chart) (g : Given) (f : Forced) (by : ForcedBy chart g f) wher
       forces : ForcedAs (counted n m v) b f
       forces = by v b shows gives
 
-      parts : {k a : ℕ} {o' u' : List Choice} {x' y' : List Limit} → o ≡ o' → u ≡ u' → h.lower ≡ k → h.upper ≡ a → x ≡ x' → y ≡ y'
+      parts : {k a : ℕ} {o' u' : List Decision} {x' y' : List Limit} → o ≡ o' → u ≡ u' → h.lower ≡ k → h.upper ≡ a → x ≡ x' → y ≡ y'
           → ◌≡◌ {A = Limited} (record { contradiction = false; decisions = record { options = o; orderings = u }; lower = h.lower; upper = h.upper; options = x; orderings = y })
           (record { contradiction = false; decisions = record { options = o'; orderings = u' }; lower = k; upper = a; options = x'; orderings = y' })
       parts p q r s t w = rw (p, q, r, s, t, w) refl

@@ -1,5 +1,5 @@
 -- How a loop fills a row, slot by slot, and what the row then holds.
-use Rattle.std.specs.Prelude.{◌≡◌, refl, Bool, true, false, ◌&&◌, ◌||◌, ◌≢◌, ℕ, suc, ◌+◌, ◌<◌, eqb, ltb}
+use Rattle.std.specs.Prelude.{◌≡◌, refl, Bool, true, false, ◌&&◌, ◌||◌, ◌≢◌, ℕ, suc, ◌+◌, ◌<◌, ◌≤◌, eqb, ltb}
 use Rattle.std.proofs.Common.{sym, subst, ◌∙◌, arith, add-one, eq-eqb, ne_eqb, lt-ltb, le-ltb, ltb-true, ltb-false}
 use Rattle.std.proofs.Math.Decide.{ℕ_discrete}
 use Rattle.rows.specs.Bits.{has, with_if}
@@ -38,6 +38,29 @@ holds_step p {r} {i} {s} {y} w e f = record { at = λ j. rw (f, has_with_if r i 
     go : (j : ℕ) → Dec (j ≡ i) → ((ltb j i && p j) || (p i && eqb i j)) ≡ (ltb j (suc i) && p j)
     go j (yes k) = rw (k, le-ltb i i (omega arith), eq-eqb i i refl, lt-ltb i (suc i) (omega arith)) (new (p i))
     go j (no k) = rw (ne_eqb i j (λ q. k (sym q)), ltb_suc_ne j i k) (sym (old (ltb j i && p j)))
+
+pub has_put_same : (r i : ℕ) (y : Bool) → has r i ≡ false → has (with_if r i y) i ≡ y
+has_put_same r i y e = rw (has_with_if r i y i, e, eq-eqb i i refl) (go y)
+  where
+    go : (b : Bool) → (b && true) ≡ b
+    go true = refl
+    go false = refl
+
+pub has_put_other : (r i : ℕ) (y : Bool) (k : ℕ) → k ≢ i → has (with_if r i y) k ≡ has r k
+has_put_other r i y k d = rw (has_with_if r i y k, ne_eqb i k (λ q. d (sym q))) (go y (has r k))
+  where
+    go : (a b : Bool) → (b || (a && false)) ≡ b
+    go a true = refl
+    go true false = refl
+    go false false = refl
+
+-- what a set made by a test holds
+pub holds_where : {r n : ℕ} (p : ℕ → Bool) → ((k : ℕ) → k < n → has r k ≡ p k) → ((k : ℕ) → n ≤ k → has r k ≡ false) → Holds r n p
+holds_where {r} {n} p below above = record { at = λ k. go k (ltb k n) refl }
+  where
+    go : (k : ℕ) (b : Bool) → ltb k n ≡ b → has r k ≡ (ltb k n && p k)
+    go k true e = rw e (below k (ltb-true k n e))
+    go k false e = rw e (above k (let h = ltb-false k n e in omega arith))
 
 pub holds_at : {r n : ℕ} {p : ℕ → Bool} → Holds r n p → (j : ℕ) → j < n → has r j ≡ p j
 holds_at {r} {n} {p} w j h = w.at j ∙ rw (lt-ltb j n h) refl

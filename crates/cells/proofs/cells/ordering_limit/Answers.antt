@@ -6,14 +6,14 @@ use Rattle.cells.proofs.laws.Charges.{charge_fits, own_weight_fits}
 use Rattle.cells.proofs.laws.Cells.{open_ordering_limit, decided_ordering_limit}
 use Rattle.cells.proofs.cells.ordering_limit.Goals as goal
 
-pub returns-then-not-get64 : goal.returns-then-not-get64
-returns-then-not-get64 c = c.no_limit.ensures ∙ decided_ordering_limit c.args.chart.now c.args.h.now _ (sym c.get64.ensures ∙ c.if-not-get64.true)
+pub returns-then-not-get : goal.returns-then-not-get
+returns-then-not-get c = c.no_limit.ensures ∙ decided_ordering_limit c.args.chart.now c.args.h.now _ (sym c.get.ensures ∙ c.if-not-get.true)
 
 pub overflow_sub-result : goal.overflow_sub-result
 overflow_sub-result c = subst (λ z. z ≤ c.args.h.now.upper) (sym c.weight_with_orderings-charged.ensures.0) (charge_fits c.args.chart.now c.args.h.now c.requires.open_fits.0 _)
 
 pub overflow_sub-result-2 : goal.overflow_sub-result-2
-overflow_sub-result-2 c = own_weight_fits c.args.chart.now c.args.h.now c.requires.open_fits.0 _ c.requires.open_fits.1 (subst T (sym (sym c.get64.ensures ∙ c.if-not-get64.false)) tt)
+overflow_sub-result-2 c = own_weight_fits c.args.chart.now c.args.h.now c.requires.open_fits.0 _ c.requires.open_fits.1 (subst T (sym (sym c.get.ensures ∙ c.if-not-get.false)) tt)
 
 pub returns : goal.returns
-returns c = open_ordering_limit c.args.chart.now c.args.h.now _ (sym c.get64.ensures ∙ c.if-not-get64.false) c.clash_row-before.ensures c.clash_row-after.ensures c.join-clash.ensures c.weight_with_orderings-charged.ensures.0 c.put-one.ensures c.put-two.ensures c.meet-ends.ensures c.weigh-needed.ensures.0
+returns c = open_ordering_limit c.args.chart.now c.args.h.now _ (sym c.get.ensures ∙ c.if-not-get.false) c.clash_row-before.ensures c.clash_row-after.ensures c.join-clash.ensures c.weight_with_orderings-charged.ensures.0 c.put-one.ensures c.put-two.ensures c.meet-ends.ensures c.weigh-needed.ensures.0

@@ -8,4 +8,4 @@ pub loop-u-init : goal.loop-u-init
 loop-u-init c = (omega arith, holds_none _)
 
 pub loop-u-preserved : goal.loop-u-preserved
-loop-u-preserved c = (omega arith, holds_step _ c.loop-u.invariant.1 (c.both-yes.ensures ∙ rw (c.get64-o.ensures, c.either-z.ensures, c.get-y.ensures, c.get-x.ensures) refl) c.put64_if-k.ensures)
+loop-u-preserved c = (omega arith, holds_step _ c.loop-u.invariant.1 (c.both-yes.ensures ∙ rw (c.get-o.ensures, c.either-z.ensures, c.get-y.ensures, c.get-x.ensures) refl) c.put_if-k.ensures)

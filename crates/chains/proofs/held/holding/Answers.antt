@@ -8,4 +8,4 @@ pub loop-i-init : goal.loop-i-init
 loop-i-init c = (omega arith, holds_none _)
 
 pub loop-i-preserved : goal.loop-i-preserved
-loop-i-preserved c = (omega arith, holds_step _ c.loop-i.invariant.1 (c.both-yes.ensures ∙ rw (c.left_some-some.ensures, c.get64-here.ensures) refl) c.put64_if-k.ensures)
+loop-i-preserved c = (omega arith, holds_step _ c.loop-i.invariant.1 (c.both-yes.ensures ∙ rw (c.left_some-some.ensures, c.get-here.ensures) refl) c.put_if-k.ensures)

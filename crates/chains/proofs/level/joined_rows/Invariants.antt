@@ -1,5 +1,4 @@
 use Prim.Native.Nat.{◌≤◌}
-use Prim.Native.Nat.{◌≤◌}
 use Rattle.chains.proofs.level.joined_rows.Given as goal
 
 abbrev pub invariant-loop-left : goal.invariant-loop-left

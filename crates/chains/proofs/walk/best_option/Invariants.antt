@@ -1,5 +1,4 @@
 use Prim.Native.Nat.{◌≤◌, ◌<◌}
-use Prim.Native.Nat.{◌≤◌, ◌<◌}
 use Rattle.chains.proofs.walk.best_option.Given as goal
 
 abbrev pub invariant-loop-left : goal.invariant-loop-left

@@ -8,4 +8,4 @@ pub loop-u-init : goal.loop-u-init
 loop-u-init c = (omega arith, holds_none _)
 
 pub loop-u-preserved : goal.loop-u-preserved
-loop-u-preserved c = (omega arith, holds_step _ c.loop-u.invariant.1 (c.either-yes.ensures ∙ rw (c.is_against-o.ensures, c.get64-g.ensures) refl) c.put64_if-k.ensures)
+loop-u-preserved c = (omega arith, holds_step _ c.loop-u.invariant.1 (c.either-yes.ensures ∙ rw (c.is_against-o.ensures, c.get-g.ensures) refl) c.put_if-k.ensures)

@@ -10,4 +10,4 @@ unfolding some_below
 loop-i-init c = (omega arith, refl)
 
 pub loop-i-preserved : goal.loop-i-preserved
-loop-i-preserved c = (omega arith, c.either-w.ensures ∙ rw (c.loop-i.invariant.1, c.both-z.ensures, c.get64-y.ensures, c.get64-x.ensures) (sym (some_more _ _)))
+loop-i-preserved c = (omega arith, c.either-w.ensures ∙ rw (c.loop-i.invariant.1, c.both-z.ensures, c.get-y.ensures, c.get-x.ensures) (sym (some_more _ _)))

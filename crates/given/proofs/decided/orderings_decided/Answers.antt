@@ -8,4 +8,4 @@ pub loop-u-init : goal.loop-u-init
 loop-u-init c = (omega arith, filled_none 64 _ _)
 
 pub loop-u-preserved : goal.loop-u-preserved
-loop-u-preserved c = (omega arith, filled_step 64 _ _ c.loop-u.invariant.1 (omega arith) (c.decided-c.ensures ∙ rw (c.get64-y.ensures, c.get64-x.ensures) refl))
+loop-u-preserved c = (omega arith, filled_step 64 _ _ c.loop-u.invariant.1 (omega arith) (c.decided-c.ensures ∙ rw (c.get-y.ensures, c.get-x.ensures) refl))

@@ -7,4 +7,4 @@ pub loop-u-init : goal.loop-u-init
 loop-u-init c = (omega arith, holds_none _)
 
 pub loop-u-preserved : goal.loop-u-preserved
-loop-u-preserved c = (omega arith, holds_step _ c.loop-u.invariant.1 c.is_kept-yes.ensures c.put64_if-k.ensures)
+loop-u-preserved c = (omega arith, holds_step _ c.loop-u.invariant.1 c.is_kept-yes.ensures c.put_if-k.ensures)

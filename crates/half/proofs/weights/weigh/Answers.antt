@@ -12,4 +12,4 @@ unfolding sum
 loop-i-init c = (omega arith, omega arith, refl)
 
 pub loop-i-preserved : goal.loop-i-preserved
-loop-i-preserved c = (omega arith, omega (arith, c.weight_if-y.ensures.1), over_step (λ j. get_or c.args.w.now j 0) (has c.args.set) c.loop-i.invariant.2 c.get64-yes.ensures c.weight_if-y.ensures.0)
+loop-i-preserved c = (omega arith, omega (arith, c.weight_if-y.ensures.1), over_step (λ j. get_or c.args.w.now j 0) (has c.args.set) c.loop-i.invariant.2 c.get-yes.ensures c.weight_if-y.ensures.0)

@@ -10,4 +10,4 @@ unfolding some_below
 loop-u-init c = (omega arith, refl)
 
 pub loop-u-preserved : goal.loop-u-preserved
-loop-u-preserved c = (omega arith, some_step _ c.loop-u.invariant.1 (c.both-w.ensures ∙ rw (c.get64-k.ensures, c.opposite-o.ensures, c.both-z.ensures, c.get-y.ensures, c.get-x.ensures) refl) c.either-e.ensures)
+loop-u-preserved c = (omega arith, some_step _ c.loop-u.invariant.1 (c.both-w.ensures ∙ rw (c.get-k.ensures, c.opposite-o.ensures, c.both-z.ensures, c.get-y.ensures, c.get-x.ensures) refl) c.either-e.ensures)

@@ -1,6 +1,6 @@
 use Rattle.rows.specs.Bits.{joined}
 use borrow.Author.Rules.{rules}
-use Rattle.rows.proofs.join.Goals as goal
+use Rattle.rows.proofs.options.join.Goals as goal
 
 pub returns : goal.returns
 unfolding joined

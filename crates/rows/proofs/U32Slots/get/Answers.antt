@@ -1,6 +1,6 @@
 use Rattle.rows.specs.Bits.{has}
 use borrow.Author.Rules.{rules}
-use Rattle.rows.proofs.get64.Goals as goal
+use Rattle.rows.proofs.U32Slots.get.Goals as goal
 
 pub returns : goal.returns
 unfolding has

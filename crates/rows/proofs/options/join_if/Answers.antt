@@ -1,5 +1,5 @@
 use Rattle.rows.specs.Bits.{joined_if}
-use Rattle.rows.proofs.join_if.Goals as goal
+use Rattle.rows.proofs.options.join_if.Goals as goal
 
 pub returns-then-yes : goal.returns-then-yes
 unfolding joined_if

@@ -2,7 +2,7 @@ use Rattle.rows.specs.Bits.{turned}
 use lib.Pow.{shl_exact}
 use native.Mathlib.Nat.{one-mul}
 use native.Mathlib.Omega.{arith}
-use Rattle.rows.proofs.turn.Goals as goal
+use Rattle.rows.proofs.options.turn.Goals as goal
 
 pub returns : goal.returns
 unfolding turned

@@ -1,6 +1,6 @@
 use Rattle.rows.specs.Bits.{met}
 use borrow.Author.Rules.{rules}
-use Rattle.rows.proofs.meet.Goals as goal
+use Rattle.rows.proofs.options.meet.Goals as goal
 
 pub returns : goal.returns
 unfolding met

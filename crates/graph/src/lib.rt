@@ -7,7 +7,6 @@ ghost use Rattle.std.specs.Prelude.{◌+◌, ◌≤◌, ◌<◌};
 ghost use Rattle.graph.specs.Graph.{EndsAreSlots, WithOrderings, JoinedThrough, JoinedThroughAll};
 
 use rows::Slots;
-
 pub use table::transposed;
 
 // The table with the kept orderings in it.

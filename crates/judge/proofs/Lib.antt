@@ -1,1 +1,1 @@
-pub mod ListTurnLaws
+pub mod SomeLaws

@@ -1,1 +1,1 @@
-pub mod CheckTurnLaws
+pub mod EntryLaws

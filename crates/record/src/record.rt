@@ -1,240 +1,129 @@
 // Whether a record is one that an accepted sheet gives: the record's rule, checked on the arrays as they stand.
-ghost use Rattle.std.specs.Prelude.{◌≡◌, ◌≤◌, length, take, drop};
-ghost use Rattle.sheet.specs.IsRecorded.{is_fine, is_letter, catalogue_fine, options_fine, orderings_fine, all_zero, within_limits, catalogue_recorded, options_recorded, orderings_recorded, is_recorded};
+ghost use Rattle.std.specs.Prelude.{◌≡◌, ◌≤◌, take, drop};
+ghost use Rattle.std.specs.List.{list_all};
+ghost use Rattle.sheet.specs.IsRecorded.{is_fine, is_letter, entry_numbers, catalogue_fine, options_fine, orderings_fine, within_limits, catalogue_recorded, options_recorded, orderings_recorded, is_recorded};
 
 use judge::{judge_catalogue_line, judge_option, judge_ordering};
 use shape::Numbers;
 use sheet::{Judged, Sheet};
 
 // No rule is broken.
-fn is_fine(v: Judged) -> bool
-    ensures { result ≡ is_fine v }
+fn is_fine(verdict: Judged) -> bool
+    ensures { result ≡ is_fine verdict }
 {
-    match v {
-        Judged::Fine => true,
-        Judged::Broken(_, _) => false,
-    }
+    matches!(verdict, Judged::Fine)
 }
 
 // C or X.
 fn is_letter(b: u8) -> bool
     ensures { result ≡ is_letter b }
 {
-    if b == 67 {
-        return true;
-    }
-    b == 88
+    b == b'C' || b == b'X'
 }
 
-// Whether all entries from `at` on are zero.
-fn all_zero(l: &[u8], at: usize) -> bool
-    ensures { result ≡ all_zero (drop at l.now) }
+// The numbers of an entry, as those of a line; columns do not matter here.
+fn entry_numbers(first: u32, second: u32, third: u32) -> Numbers
+    ensures { result ≡ entry_numbers first second third }
 {
-    let mut i = at;
-    while i < l.len() {
-        if l[i] != 0 {
-            return false;
-        }
-        i += 1;
+    Numbers {
+        first,
+        second,
+        third,
+        second_column: 0,
+        third_column: 0,
     }
-    true
 }
 
-// The same of weights.
-fn all_zero_weights(l: &[u16], at: usize) -> bool
-    ensures { result ≡ all_zero (drop at l.now) }
+// Whether all entries from `at` on are this one.
+fn rest_is<T: Copy + PartialEq>(entries: &[T], at: usize, entry: T) -> bool
+    ensures { result ≡ list_all (λ x. T.eq x entry) (drop at entries.now) }
 {
-    let mut i = at;
-    while i < l.len() {
-        if l[i] != 0 {
-            return false;
-        }
-        i += 1;
-    }
-    true
+    entries.iter().skip(at).all(|x| *x == entry)
 }
 
-// Whether the first n catalogue entries could be lines.
-fn catalogue_fine(letters: &[u8], befores: &[u8], afters: &[u8], n: usize) -> bool
-    requires enough_letters { n ≤ length letters.now }
-    requires enough_befores { n ≤ length befores.now }
-    requires enough_afters { n ≤ length afters.now }
-    ensures { result ≡ catalogue_fine n 0 letters.now befores.now afters.now }
+// Whether the catalogue's entries could be lines.
+fn catalogue_fine(s: &Sheet) -> bool
+    requires { s.now.catalogue_lines ≤ 512 }
+    ensures { result ≡ catalogue_fine s.now.catalogue_lines 0 s.now.letters s.now.befores s.now.afters }
 {
-    let mut i: usize = 0;
-    while i < n {
-        let c = letters[i];
-        let a = befores[i] as u32;
-        let b = afters[i] as u32;
-        if !is_letter(c) {
-            return false;
-        }
-        let v = judge_catalogue_line(Numbers {
-            first: a,
-            second: b,
-            third: 0,
-            second_column: 0,
-            third_column: 0,
-        });
-        if !is_fine(v) {
-            return false;
-        }
-        i += 1;
-    }
-    true
+    (0..s.catalogue_lines).all(|i| {
+        let before = u32::from(s.befores[i]);
+        let after = u32::from(s.afters[i]);
+        is_letter(s.letters[i]) && is_fine(judge_catalogue_line(entry_numbers(before, after, 0)))
+    })
 }
 
-// Whether the first n options could be F lines.
-fn options_fine(numbers: &[u8], weights: &[u16], n: usize) -> bool
-    requires enough_numbers { n ≤ length numbers.now }
-    requires enough_weights { n ≤ length weights.now }
-    ensures { result ≡ options_fine n 0 numbers.now weights.now }
+// Whether the options could be F lines.
+fn options_fine(s: &Sheet) -> bool
+    requires { s.now.option_count ≤ 32 }
+    ensures { result ≡ options_fine s.now.option_count 0 s.now.numbers s.now.weights }
 {
-    let mut i: usize = 0;
-    while i < n {
-        let a = numbers[i] as u32;
-        let b = weights[i] as u32;
-        let h = Numbers {
-            first: a,
-            second: b,
-            third: 0,
-            second_column: 0,
-            third_column: 0,
-        };
-        let v = judge_option(h, &numbers[..i]);
-        if !is_fine(v) {
-            return false;
-        }
-        i += 1;
-    }
-    true
+    (0..s.option_count).all(|i| {
+        let numbers = entry_numbers(u32::from(s.numbers[i]), u32::from(s.weights[i]), 0);
+        is_fine(judge_option(numbers, &s.numbers[..i]))
+    })
 }
 
-// Whether the first n orderings could be U lines.
-fn orderings_fine(
-    subscribed: &[u8],
-    firsts: &[u8],
-    seconds: &[u8],
-    weights: &[u16],
-    n: usize,
-) -> bool
-    requires enough_firsts { n ≤ length firsts.now }
-    requires enough_seconds { n ≤ length seconds.now }
-    requires enough_weights { n ≤ length weights.now }
-    ensures { result ≡ orderings_fine n 0 subscribed.now firsts.now seconds.now weights.now }
+// Whether the orderings could be U lines.
+fn orderings_fine(s: &Sheet) -> bool
+    requires { (s.now.option_count ≤ 32) × (s.now.ordering_count ≤ 64) }
+    ensures { result ≡ orderings_fine s.now.ordering_count 0 (take s.now.option_count s.now.numbers) s.now.firsts s.now.seconds s.now.ordering_weights }
 {
-    let mut i: usize = 0;
-    while i < n {
-        let a = firsts[i] as u32;
-        let b = seconds[i] as u32;
-        let w = weights[i] as u32;
-        let h = Numbers {
-            first: a,
-            second: b,
-            third: w,
-            second_column: 0,
-            third_column: 0,
-        };
-        let v = judge_ordering(h, subscribed, &firsts[..i], &seconds[..i]);
-        if !is_fine(v) {
-            return false;
-        }
-        i += 1;
-    }
-    true
+    let subscribed = &s.numbers[..s.option_count];
+    (0..s.ordering_count).all(|i| {
+        let first = u32::from(s.firsts[i]);
+        let second = u32::from(s.seconds[i]);
+        let numbers = entry_numbers(first, second, u32::from(s.ordering_weights[i]));
+        is_fine(judge_ordering(numbers, subscribed, &s.firsts[..i], &s.seconds[..i]))
+    })
 }
 
 // No section has too many lines.
-fn within_limits(catalogue: usize, options: usize, orderings: usize) -> bool
-    ensures { result ≡ within_limits catalogue options orderings }
+fn within_limits(s: &Sheet) -> bool
+    ensures { result ≡ within_limits s.now.catalogue_lines s.now.option_count s.now.ordering_count }
 {
-    if Sheet::CATALOGUE < catalogue {
-        return false;
-    }
-    if Sheet::OPTIONS < options {
-        return false;
-    }
-    if Sheet::ORDERINGS < orderings {
-        return false;
-    }
-    true
+    s.catalogue_lines <= Sheet::CATALOGUE
+        && s.option_count <= Sheet::OPTIONS
+        && s.ordering_count <= Sheet::ORDERINGS
 }
 
-// The catalogue's part of the rule: n lines, then zeros.
-fn catalogue_recorded<'a>(letters: &'a [u8], befores: &'a [u8], afters: &'a [u8], n: usize) -> bool
-    requires { (n ≤ length letters.now) × ((n ≤ length befores.now) × (n ≤ length afters.now)) }
-    ensures { result ≡ catalogue_recorded n letters.now befores.now afters.now }
+// The catalogue's part of the rule: its lines, then zeros.
+fn catalogue_recorded(s: &Sheet) -> bool
+    requires { s.now.catalogue_lines ≤ 512 }
+    ensures { result ≡ catalogue_recorded s.now.catalogue_lines s.now.letters s.now.befores s.now.afters }
 {
-    if !catalogue_fine(letters, befores, afters, n) {
-        return false;
-    }
-    if !all_zero(letters, n) {
-        return false;
-    }
-    if !all_zero(befores, n) {
-        return false;
-    }
-    all_zero(afters, n)
+    let n = s.catalogue_lines;
+    catalogue_fine(s)
+        && rest_is(&s.letters, n, 0)
+        && rest_is(&s.befores, n, 0)
+        && rest_is(&s.afters, n, 0)
 }
 
 // The options' part.
-fn options_recorded<'a>(numbers: &'a [u8], weights: &'a [u16], n: usize) -> bool
-    requires { (n ≤ length numbers.now) × (n ≤ length weights.now) }
-    ensures { result ≡ options_recorded n numbers.now weights.now }
+fn options_recorded(s: &Sheet) -> bool
+    requires { s.now.option_count ≤ 32 }
+    ensures { result ≡ options_recorded s.now.option_count s.now.numbers s.now.weights }
 {
-    if !options_fine(numbers, weights, n) {
-        return false;
-    }
-    if !all_zero(numbers, n) {
-        return false;
-    }
-    all_zero_weights(weights, n)
+    let n = s.option_count;
+    options_fine(s) && rest_is(&s.numbers, n, 0) && rest_is(&s.weights, n, 0)
 }
 
-// The orderings' part, with the first m options subscribed.
-fn orderings_recorded<'a>(
-    numbers: &'a [u8],
-    m: usize,
-    firsts: &'a [u8],
-    seconds: &'a [u8],
-    weights: &'a [u16],
-    n: usize,
-) -> bool
-    requires enough_numbers { m ≤ length numbers.now }
-    requires enough_entries { (n ≤ length firsts.now) × ((n ≤ length seconds.now) × (n ≤ length weights.now)) }
-    ensures { result ≡ orderings_recorded n (take m numbers.now) firsts.now seconds.now weights.now }
+// The orderings' part.
+fn orderings_recorded(s: &Sheet) -> bool
+    requires { (s.now.option_count ≤ 32) × (s.now.ordering_count ≤ 64) }
+    ensures { result ≡ orderings_recorded s.now.ordering_count (take s.now.option_count s.now.numbers) s.now.firsts s.now.seconds s.now.ordering_weights }
 {
-    if !orderings_fine(&numbers[..m], firsts, seconds, weights, n) {
-        return false;
-    }
-    if !all_zero(firsts, n) {
-        return false;
-    }
-    if !all_zero(seconds, n) {
-        return false;
-    }
-    all_zero_weights(weights, n)
+    let n = s.ordering_count;
+    orderings_fine(s)
+        && rest_is(&s.firsts, n, 0)
+        && rest_is(&s.seconds, n, 0)
+        && rest_is(&s.ordering_weights, n, 0)
 }
 
 // Whether some accepted sheet gives the record.
+#[tactic(auto, unfolding(sheet::specs::IsRecorded::is_recorded))]
 pub fn is_recorded(s: Sheet) -> bool
     ensures { result ≡ is_recorded s }
 {
-    if !within_limits(s.catalogue_lines, s.option_count, s.ordering_count) {
-        return false;
-    }
-    if !catalogue_recorded(&s.letters, &s.befores, &s.afters, s.catalogue_lines) {
-        return false;
-    }
-    if !options_recorded(&s.numbers, &s.weights, s.option_count) {
-        return false;
-    }
-    orderings_recorded(
-        &s.numbers,
-        s.option_count,
-        &s.firsts,
-        &s.seconds,
-        &s.ordering_weights,
-        s.ordering_count,
-    )
+    within_limits(&s) && catalogue_recorded(&s) && options_recorded(&s) && orderings_recorded(&s)
 }

@@ -1,7 +1,11 @@
--- A pair of the two lists is a pair of the parts that are left, as long as it was not met.
-use mathlib.Core.Path.{sym, ◌∙◌}
-use Rattle.judge.proofs.ListTurnLaws.{pair_short}
+-- The test is that of the definition, pair by pair.
+use Rattle.std.proofs.Common.{rules, tests, ◌∙◌, ◌&&◌, eqb}
+use Rattle.std.proofs.lemmas.Iterator.{YieldsList-from_slice, YieldsList-from_zip}
+use Rattle.std.proofs.lemmas.Iterator.Search.{any_from_yields_List}
+use Rattle.judge.proofs.SomeLaws.{some_is_pair}
 use Rattle.judge.proofs.judge.is_pair.Goals as goal
 
-pub returns-then-seconds-i : goal.returns-then-seconds-i
-returns-then-seconds-i c = sym (c.loop-i.invariant.1 ∙ pair_short c.args.x c.args.y c.loop-i.i c.args.firsts.now c.args.seconds.now c.loop-i-test.true c.if-seconds-i.true)
+pub returns : goal.returns
+returns c =
+    any_from_yields_List (λ p. eqb p.0 c.args.x && eqb p.1 c.args.y) c.any.new.self _ _ c.any.ensures.ran (YieldsList-from_zip (YieldsList-from_slice c.args.firsts.now cc) (YieldsList-from_slice c.args.seconds.now cc)) (λ x b q k. search (rules, tests))
+    ∙ some_is_pair c.args.x c.args.y c.args.firsts.now c.args.seconds.now

@@ -1,21 +1,24 @@
 -- The tests are those of the definition, in its order.
-use mathlib.Core.Path.{sym, ◌∙◌}
-use Rattle.record.proofs.CheckTurnLaws.{and_stop, and_on}
+use Rattle.std.proofs.Common.{arith, drop}
+use Rattle.std.proofs.lemmas.Grind.{common_steps}
+use Rattle.record.proofs.EntryLaws.{rest_zero}
 use Rattle.sheet.specs.IsRecorded.{catalogue_recorded}
 use Rattle.record.proofs.record.catalogue_recorded.Goals as goal
 
-pub returns-then-not-catalogue_fine : goal.returns-then-not-catalogue_fine
+pub returns-then-rest_is-2 : goal.returns-then-rest_is-2
 unfolding catalogue_recorded
-returns-then-not-catalogue_fine c = sym (and_stop _ _ (sym c.catalogue_fine.ensures ∙ c.if-not-catalogue_fine.true))
+returns-then-rest_is-2 c =
+    let s = c.args.s.now in
+    let p = rest_zero (drop s.catalogue_lines s.letters) in
+    let q = rest_zero (drop s.catalogue_lines s.befores) in
+    let r = rest_zero (drop s.catalogue_lines s.afters) in
+    grind (arith, common_steps, p, q, r)
 
-pub returns-then-not-all_zero : goal.returns-then-not-all_zero
+pub returns-else-rest_is-2 : goal.returns-else-rest_is-2
 unfolding catalogue_recorded
-returns-then-not-all_zero c = sym (and_on _ _ (sym c.catalogue_fine.ensures ∙ c.if-not-catalogue_fine.false) ∙ and_stop _ _ (sym c.all_zero.ensures ∙ c.if-not-all_zero.true))
-
-pub returns-then-not-all_zero-2 : goal.returns-then-not-all_zero-2
-unfolding catalogue_recorded
-returns-then-not-all_zero-2 c = sym (and_on _ _ (sym c.catalogue_fine.ensures ∙ c.if-not-catalogue_fine.false) ∙ and_on _ _ (sym c.all_zero.ensures ∙ c.if-not-all_zero.false) ∙ and_stop _ _ (sym c.all_zero-2.ensures ∙ c.if-not-all_zero-2.true))
-
-pub returns : goal.returns
-unfolding catalogue_recorded
-returns c = c.all_zero-3.ensures ∙ sym (and_on _ _ (sym c.catalogue_fine.ensures ∙ c.if-not-catalogue_fine.false) ∙ and_on _ _ (sym c.all_zero.ensures ∙ c.if-not-all_zero.false) ∙ and_on _ _ (sym c.all_zero-2.ensures ∙ c.if-not-all_zero-2.false))
+returns-else-rest_is-2 c =
+    let s = c.args.s.now in
+    let p = rest_zero (drop s.catalogue_lines s.letters) in
+    let q = rest_zero (drop s.catalogue_lines s.befores) in
+    let r = rest_zero (drop s.catalogue_lines s.afters) in
+    grind (arith, common_steps, p, q, r)

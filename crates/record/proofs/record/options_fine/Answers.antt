@@ -1,15 +1,12 @@
--- All entries are fine if those that are left are.
-use mathlib.Core.Path.{sym, ap, ◌∙◌}
-use native.Mathlib.Omega.{arith}
-use Rattle.sheet.specs.IsRecorded.{is_fine}
-use Rattle.record.proofs.CheckTurnLaws.{options_bad, options_on, options_end}
+-- The test of all entries is the definition's, which goes entry by entry.
+use Rattle.std.proofs.Common.{rules, tests, refl, arith, ◌∙◌}
+use Rattle.std.proofs.lemmas.Iterator.{YieldsList-from_range}
+use Rattle.std.proofs.lemmas.Iterator.Search.{all_from_yields_List}
+use Rattle.record.proofs.EntryLaws.{fine_option, all_options}
 use Rattle.record.proofs.record.options_fine.Goals as goal
 
-pub returns-then-not-is_fine : goal.returns-then-not-is_fine
-returns-then-not-is_fine c = sym (c.loop-i.invariant.1 ∙ options_bad _ _ _ _ c.loop-i-test.true (ap is_fine (sym c.judge_option-v.ensures) ∙ sym c.is_fine.ensures ∙ c.if-not-is_fine.true))
-
-pub loop-i-preserved : goal.loop-i-preserved
-loop-i-preserved c = (omega arith, c.loop-i.invariant.1 ∙ options_on _ _ _ _ c.loop-i-test.true (ap is_fine (sym c.judge_option-v.ensures) ∙ sym c.is_fine.ensures ∙ c.if-not-is_fine.false))
-
 pub returns : goal.returns
-returns c = sym (c.loop-i.invariant.1 ∙ options_end _ _ _ _ c.loop-i-test.false)
+returns c =
+    let s = c.args.s.now in
+    all_from_yields_List (fine_option s.numbers s.weights) c.all.new.self _ _ c.all.ensures.ran (YieldsList-from_range 0 s.option_count s.option_count refl (omega arith)) (λ x b q k. search (rules, tests))
+    ∙ all_options s.option_count 0 s.numbers s.weights

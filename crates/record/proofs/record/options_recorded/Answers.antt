@@ -1,17 +1,22 @@
 -- The tests are those of the definition, in its order.
-use mathlib.Core.Path.{sym, ◌∙◌}
-use Rattle.record.proofs.CheckTurnLaws.{and_stop, and_on}
+use Rattle.std.proofs.Common.{arith, drop}
+use Rattle.std.proofs.lemmas.Grind.{common_steps}
+use Rattle.record.proofs.EntryLaws.{rest_zero}
 use Rattle.sheet.specs.IsRecorded.{options_recorded}
 use Rattle.record.proofs.record.options_recorded.Goals as goal
 
-pub returns-then-not-options_fine : goal.returns-then-not-options_fine
+pub returns-then-rest_is : goal.returns-then-rest_is
 unfolding options_recorded
-returns-then-not-options_fine c = sym (and_stop _ _ (sym c.options_fine.ensures ∙ c.if-not-options_fine.true))
+returns-then-rest_is c =
+    let s = c.args.s.now in
+    let p = rest_zero (drop s.option_count s.numbers) in
+    let q = rest_zero (drop s.option_count s.weights) in
+    grind (arith, common_steps, p, q)
 
-pub returns-then-not-all_zero : goal.returns-then-not-all_zero
+pub returns-else-rest_is : goal.returns-else-rest_is
 unfolding options_recorded
-returns-then-not-all_zero c = sym (and_on _ _ (sym c.options_fine.ensures ∙ c.if-not-options_fine.false) ∙ and_stop _ _ (sym c.all_zero.ensures ∙ c.if-not-all_zero.true))
-
-pub returns : goal.returns
-unfolding options_recorded
-returns c = c.all_zero_weights.ensures ∙ sym (and_on _ _ (sym c.options_fine.ensures ∙ c.if-not-options_fine.false) ∙ and_on _ _ (sym c.all_zero.ensures ∙ c.if-not-all_zero.false))
+returns-else-rest_is c =
+    let s = c.args.s.now in
+    let p = rest_zero (drop s.option_count s.numbers) in
+    let q = rest_zero (drop s.option_count s.weights) in
+    grind (arith, common_steps, p, q)

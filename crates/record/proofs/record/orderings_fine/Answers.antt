@@ -1,15 +1,12 @@
--- All entries are fine if those that are left are.
-use mathlib.Core.Path.{sym, ap, ◌∙◌}
-use native.Mathlib.Omega.{arith}
-use Rattle.sheet.specs.IsRecorded.{is_fine}
-use Rattle.record.proofs.CheckTurnLaws.{orderings_bad, orderings_on, orderings_end}
+-- The test of all entries is the definition's, which goes entry by entry.
+use Rattle.std.proofs.Common.{rules, tests, refl, arith, ◌∙◌, take}
+use Rattle.std.proofs.lemmas.Iterator.{YieldsList-from_range}
+use Rattle.std.proofs.lemmas.Iterator.Search.{all_from_yields_List}
+use Rattle.record.proofs.EntryLaws.{fine_ordering, all_orderings}
 use Rattle.record.proofs.record.orderings_fine.Goals as goal
 
-pub returns-then-not-is_fine : goal.returns-then-not-is_fine
-returns-then-not-is_fine c = sym (c.loop-i.invariant.1 ∙ orderings_bad _ _ _ _ _ _ c.loop-i-test.true (ap is_fine (sym c.judge_ordering-v.ensures) ∙ sym c.is_fine.ensures ∙ c.if-not-is_fine.true))
-
-pub loop-i-preserved : goal.loop-i-preserved
-loop-i-preserved c = (omega arith, c.loop-i.invariant.1 ∙ orderings_on _ _ _ _ _ _ c.loop-i-test.true (ap is_fine (sym c.judge_ordering-v.ensures) ∙ sym c.is_fine.ensures ∙ c.if-not-is_fine.false))
-
 pub returns : goal.returns
-returns c = sym (c.loop-i.invariant.1 ∙ orderings_end _ _ _ _ _ _ c.loop-i-test.false)
+returns c =
+    let s = c.args.s.now in
+    all_from_yields_List (fine_ordering (take s.option_count s.numbers) s.firsts s.seconds s.ordering_weights) c.all.new.self _ _ c.all.ensures.ran (YieldsList-from_range 0 s.ordering_count s.ordering_count refl (omega arith)) (λ x b q k. search (rules, tests))
+    ∙ all_orderings s.ordering_count 0 (take s.option_count s.numbers) s.firsts s.seconds s.ordering_weights

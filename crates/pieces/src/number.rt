@@ -17,21 +17,14 @@ pub fn number_at(s: &[u8], at: usize) -> Parsed
 {
     let mut value: u32 = 0;
     let mut next = at;
-    let mut left: usize = 5;
-    while 0 < left {
-        if s.len() <= next {
-            return Parsed { value, next };
+    for _ in 0..5 {
+        match s.get(next) {
+            Some(b) if b.is_ascii_digit() => {
+                value = value * 10 + u32::from(*b - b'0');
+                next += 1;
+            }
+            _ => break,
         }
-        let b = s[next];
-        if b < 48 {
-            return Parsed { value, next };
-        }
-        if 57 < b {
-            return Parsed { value, next };
-        }
-        value = value * 10 + ((b - 48) as u32);
-        next += 1;
-        left -= 1;
     }
     Parsed { value, next }
 }

@@ -4,5 +4,5 @@ use Rattle.shape.specs.Number.{number_value, number_width}
 use Rattle.shape.proofs.NumberLaws.{cap}
 use Rattle.pieces.proofs.number.number_at.Given as goal
 
-abbrev pub invariant-loop-1 : goal.invariant-loop-1
-invariant-loop-1 l = (l.value ≤ cap l.index) × (number_value 5 0 (drop l.at l.s) ≡ number_value (5 - l.index) l.value (drop l.next l.s)) × (l.at + number_width 5 (drop l.at l.s) ≡ l.next + number_width (5 - l.index) (drop l.next l.s))
+abbrev pub invariant-loop : goal.invariant-loop
+invariant-loop l = (l.value ≤ cap l.counter) × (number_value 5 0 (drop l.at l.s) ≡ number_value (5 - l.counter) l.value (drop l.next l.s)) × (l.at + number_width 5 (drop l.at l.s) ≡ l.next + number_width (5 - l.counter) (drop l.next l.s))

@@ -1,2 +1,1 @@
 pub mod DigitTurnLaws
-pub mod TurnLaws

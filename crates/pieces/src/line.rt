@@ -6,20 +6,17 @@ ghost use Rattle.shape.specs.Line.{line_length};
 pub fn line_length(text: &[u8]) -> usize
     ensures { (result ≡ line_length text.now) × (result ≤ length text.now) }
 {
-    let mut i: usize = 0;
-    while i < text.len() {
-        let b = text[i];
-        i += 1;
-        if b == 10 {
-            return i;
+    for (i, b) in text.iter().enumerate() {
+        if *b == b'\n' {
+            return i + 1;
         }
     }
-    i
+    text.len()
 }
 
 // The byte at a position, or 0 past the end.
 pub fn byte_at(text: &[u8], at: usize) -> u8
     ensures { result ≡ get_or text.now at 0 }
 {
-    if at < text.len() { text[at] } else { 0 }
+    text.get(at).copied().unwrap_or(0)
 }

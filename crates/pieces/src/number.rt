@@ -17,21 +17,15 @@ pub fn number_at(s: &[u8], at: usize) -> Parsed
 {
     let mut value: u32 = 0;
     let mut next = at;
-    let mut left: usize = 5;
-    while 0 < left {
-        if s.len() <= next {
-            return Parsed { value, next };
+    for _ in 0..5usize {
+        let Some(b) = s.get(next) else {
+            break;
+        };
+        if !b.is_ascii_digit() {
+            break;
         }
-        let b = s[next];
-        if b < 48 {
-            return Parsed { value, next };
-        }
-        if 57 < b {
-            return Parsed { value, next };
-        }
-        value = value * 10 + ((b - 48) as u32);
+        value = value * 10 + u32::from(*b - b'0');
         next += 1;
-        left -= 1;
     }
     Parsed { value, next }
 }
@@ -40,16 +34,14 @@ pub fn number_at(s: &[u8], at: usize) -> Parsed
 pub fn numbers_of(line: &[u8]) -> Numbers
     ensures { result ≡ numbers_of line.now }
 {
-    let a = number_at(line, 2);
-    let p = a.next + 1;
-    let b = number_at(line, p);
-    let q = b.next + 1;
-    let w = number_at(line, q);
+    let first = number_at(line, 2);
+    let second = number_at(line, first.next + 1);
+    let third = number_at(line, second.next + 1);
     Numbers {
-        first: a.value,
-        second: b.value,
-        third: w.value,
-        second_column: p + 1,
-        third_column: q + 1,
+        first: first.value,
+        second: second.value,
+        third: third.value,
+        second_column: first.next + 2,
+        third_column: second.next + 2,
     }
 }

@@ -6,6 +6,5 @@ pub mod LineEndLaws
 pub mod NumberLaws
 pub mod PassOverLaws
 pub mod ReadBackLaws
-pub mod ScanTurnLaws
 pub mod SplitLaws
 pub mod TextLaws

@@ -12,6 +12,7 @@ pub struct Place {
 }
 
 // The first misshapen place with the byte that stands there, if there is one.
+// Not an `Option` of the two: callers outside and the theorems of the place name this type and its two cases.
 #[derive(Clone, Copy)]
 pub enum Scanned {
     Clean,
@@ -23,44 +24,38 @@ pub fn section_of(f: usize, u: usize, line: usize) -> Section
     ensures { result ≡ section_of f u line }
 {
     if line < f {
-        return Section::Catalogue;
+        Section::Catalogue
+    } else if line < u {
+        Section::Options
+    } else {
+        Section::Orderings
     }
-    if line < u {
-        return Section::Options;
-    }
-    Section::Orderings
 }
 
 // The first byte of the lines before the trailer that no well-shaped line of its section could have there, with its place.
 pub fn first_misshapen(s: &[u8], f: usize, u: usize) -> Scanned
     ensures { result ≡ first_misshapen f u s.now }
 {
-    let mut i: usize = 0;
+    let mut start: usize = 0;
     let mut line: usize = 1;
     'lines: loop {
-        if s.len() <= i {
-            break 'lines Scanned::Clean;
-        }
-        let sec = section_of(f, u, line);
-        let mut st = State::Start;
-        let mut column: usize = 1;
-        'columns: while i < s.len() {
-            let b = s[i];
-            let next = next_state(sec, st, b);
-            i += 1;
-            match next {
+        let section = section_of(f, u, line);
+        let mut state = State::Start;
+        for (i, b) in s[start..].iter().enumerate() {
+            state = next_state(section, state, *b);
+            match state {
                 State::Dead => {
-                    break 'lines Scanned::At(Place { line, column }, b);
+                    let column = i + 1;
+                    break 'lines Scanned::At(Place { line, column }, *b);
                 }
                 State::Done => {
+                    start += i + 1;
                     line += 1;
-                    break 'columns;
+                    continue 'lines;
                 }
-                _ => {
-                    st = next;
-                    column += 1;
-                }
+                _ => {}
             }
         }
+        break 'lines Scanned::Clean;
     }
 }

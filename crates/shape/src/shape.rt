@@ -32,34 +32,12 @@ pub enum State {
 pub fn begin_line(sec: Section, b: u8) -> State
     ensures { result ≡ begin_line sec b }
 {
-    match sec {
-        Section::Catalogue => {
-            if b == 67 {
-                return State::Gap(2);
-            }
-            if b == 88 {
-                return State::Gap(2);
-            }
-            State::Dead
-        }
-        Section::Options => {
-            if b == 70 {
-                return State::Gap(2);
-            }
-            State::Dead
-        }
-        Section::Orderings => {
-            if b == 85 {
-                return State::Gap(3);
-            }
-            State::Dead
-        }
-        Section::Trailer => {
-            if b == 84 {
-                return State::Gap(3);
-            }
-            State::Dead
-        }
+    match (sec, b) {
+        (Section::Catalogue, b'C' | b'X') => State::Gap(2),
+        (Section::Options, b'F') => State::Gap(2),
+        (Section::Orderings, b'U') => State::Gap(3),
+        (Section::Trailer, b'T') => State::Gap(3),
+        _ => State::Dead,
     }
 }
 
@@ -67,55 +45,35 @@ pub fn begin_line(sec: Section, b: u8) -> State
 pub fn after_field(k: u8, b: u8) -> State
     ensures { result ≡ after_field k b }
 {
-    if k == 0 {
-        if b == 10 {
-            return State::Done;
-        }
-        return State::Dead;
+    match (k, b) {
+        (0, b'\n') => State::Done,
+        (0, _) => State::Dead,
+        (_, b' ') => State::First(k - 1),
+        _ => State::Dead,
     }
-    if b == 32 {
-        return State::First(k - 1);
-    }
-    State::Dead
 }
 
 // A byte in a number, after its first digit.
 pub fn in_number(k: u8, m: u8, b: u8) -> State
     ensures { result ≡ in_number k m b }
 {
-    if b < 48 {
-        return after_field(k, b);
+    match b {
+        b'0'..=b'9' if m == 0 => State::Dead,
+        b'0'..=b'9' => State::Digit(k, m - 1),
+        _ => after_field(k, b),
     }
-    if 57 < b {
-        return State::Dead;
-    }
-    if m == 0 {
-        return State::Dead;
-    }
-    State::Digit(k, m - 1)
 }
 
 // One byte of a line.
 pub fn next_state(sec: Section, st: State, b: u8) -> State
     ensures { result ≡ next_state sec st b }
 {
-    match st {
-        State::Start => begin_line(sec, b),
-        State::Gap(k) => after_field(k, b),
-        State::First(k) => {
-            if b == 48 {
-                return State::Digit(k, 0);
-            }
-            if b < 48 {
-                return State::Dead;
-            }
-            if 57 < b {
-                return State::Dead;
-            }
-            State::Digit(k, 4)
-        }
-        State::Digit(k, m) => in_number(k, m, b),
-        State::Done => State::Dead,
-        State::Dead => State::Dead,
+    match (st, b) {
+        (State::Start, _) => begin_line(sec, b),
+        (State::Gap(k), _) => after_field(k, b),
+        (State::First(k), b'0') => State::Digit(k, 0),
+        (State::First(k), b'1'..=b'9') => State::Digit(k, 4),
+        (State::Digit(k, m), _) => in_number(k, m, b),
+        _ => State::Dead,
     }
 }

@@ -1,111 +1,57 @@
 // A record from its bytes.
-ghost use Rattle.std.specs.Prelude.{◌≡◌, ◌≤◌};
+ghost use Rattle.std.specs.Prelude.{◌≡◌, ◌+◌, ◌*◌, ◌≤◌, length};
 ghost use Rattle.fields.specs.Record.{two_at, bytes_at, twos_at, record_of, record_in};
 
-use pieces::byte_at;
 use sheet::Sheet;
+
+// How many bytes a record has.
+const SIZE: usize = 1894;
 
 // A number of two bytes, the lower one first.
 fn two_at(bytes: &[u8], at: usize) -> u16
-    requires { at ≤ 2000 }
+    requires { at + 2 ≤ length bytes.now }
     ensures { result ≡ two_at bytes.now at }
 {
-    let low = byte_at(bytes, at) as u16;
-    let high = byte_at(bytes, at + 1) as u16;
-    low + 256 * high
+    u16::from_le_bytes([bytes[at], bytes[at + 1]])
 }
 
-fn bytes_512(bytes: &[u8], at: usize) -> [u8; 512]
-    requires { at ≤ 1222 }
-    ensures { result ≡ bytes_at 512 bytes.now at }
+// N bytes from byte `at` on.
+fn bytes_at<const N: usize>(bytes: &[u8], at: usize) -> [u8; N]
+    requires { at + N ≤ length bytes.now }
+    ensures { result ≡ bytes_at N bytes.now at }
 {
-    let mut l = [0u8; 512];
-    let mut i: usize = 0;
-    while i < 512 {
-        l[i] = byte_at(bytes, at + i);
-        i += 1;
-    }
-    l
+    let mut part = [0; N];
+    part.copy_from_slice(&bytes[at..at + N]);
+    part
 }
 
-fn bytes_64(bytes: &[u8], at: usize) -> [u8; 64]
-    requires { at ≤ 1830 }
-    ensures { result ≡ bytes_at 64 bytes.now at }
+// N numbers of two bytes each.
+fn twos_at<const N: usize>(bytes: &[u8], at: usize) -> [u16; N]
+    requires { at + 2 * N ≤ length bytes.now }
+    ensures { result ≡ twos_at N bytes.now at }
 {
-    let mut l = [0u8; 64];
-    let mut i: usize = 0;
-    while i < 64 {
-        l[i] = byte_at(bytes, at + i);
-        i += 1;
+    let mut numbers = [0; N];
+    for i in 0..N {
+        numbers[i] = two_at(bytes, at + 2 * i);
     }
-    l
+    numbers
 }
 
-fn bytes_32(bytes: &[u8], at: usize) -> [u8; 32]
-    requires { at ≤ 1734 }
-    ensures { result ≡ bytes_at 32 bytes.now at }
-{
-    let mut l = [0u8; 32];
-    let mut i: usize = 0;
-    while i < 32 {
-        l[i] = byte_at(bytes, at + i);
-        i += 1;
-    }
-    l
-}
-
-fn twos_64(bytes: &[u8], at: usize) -> [u16; 64]
-    requires { at ≤ 70 }
-    ensures { result ≡ twos_at 64 bytes.now at }
-{
-    let mut l = [0u16; 64];
-    let mut i: usize = 0;
-    while i < 64 {
-        l[i] = two_at(bytes, at + 2 * i);
-        i += 1;
-    }
-    l
-}
-
-fn twos_32(bytes: &[u8], at: usize) -> [u16; 32]
-    requires { at ≤ 6 }
-    ensures { result ≡ twos_at 32 bytes.now at }
-{
-    let mut l = [0u16; 32];
-    let mut i: usize = 0;
-    while i < 32 {
-        l[i] = two_at(bytes, at + 2 * i);
-        i += 1;
-    }
-    l
-}
-
-fn record_of(bytes: &[u8]) -> Sheet
+fn record_of(bytes: &[u8; SIZE]) -> Sheet
     ensures { result ≡ record_of bytes.now }
 {
-    let catalogue_lines = two_at(bytes, 0) as usize;
-    let option_count = two_at(bytes, 2) as usize;
-    let ordering_count = two_at(bytes, 4) as usize;
-    let weights = twos_32(bytes, 6);
-    let ordering_weights = twos_64(bytes, 70);
-    let letters = bytes_512(bytes, 198);
-    let befores = bytes_512(bytes, 710);
-    let afters = bytes_512(bytes, 1222);
-    let numbers = bytes_32(bytes, 1734);
-    let firsts = bytes_64(bytes, 1766);
-    let seconds = bytes_64(bytes, 1830);
     Sheet {
-        catalogue_lines,
-        option_count,
-        ordering_count,
-        letters,
-        befores,
-        afters,
-        numbers,
-        weights,
-        firsts,
-        seconds,
-        ordering_weights,
+        catalogue_lines: usize::from(two_at(bytes, 0)),
+        option_count: usize::from(two_at(bytes, 2)),
+        ordering_count: usize::from(two_at(bytes, 4)),
+        weights: twos_at(bytes, 6),
+        ordering_weights: twos_at(bytes, 70),
+        letters: bytes_at(bytes, 198),
+        befores: bytes_at(bytes, 710),
+        afters: bytes_at(bytes, 1222),
+        numbers: bytes_at(bytes, 1734),
+        firsts: bytes_at(bytes, 1766),
+        seconds: bytes_at(bytes, 1830),
     }
 }
 
@@ -113,8 +59,8 @@ fn record_of(bytes: &[u8]) -> Sheet
 pub fn record_in(bytes: &[u8]) -> Sheet
     ensures { result ≡ record_in bytes.now }
 {
-    if bytes.len() == 1894 {
-        return record_of(bytes);
+    match bytes.as_array() {
+        Some(bytes) => record_of(bytes),
+        None => Sheet::sized(513, 0, 0),
     }
-    Sheet::sized(513, 0, 0)
 }

@@ -1,7 +1,7 @@
 -- How a loop takes a list from bytes, entry by entry.
-use Rattle.std.specs.Prelude.{ℕ, ◌+◌, ◌≤◌, ◌<◌, ◌≡◌, ◌⊎◌, List, length, get_or, set, replicate}
-use Rattle.std.proofs.Common.{sym, subst, ◌∙◌, inl, inr, arith, eq-or-lt_of_le, length-set, get_or-set_same, get_or-set_other, ext_get_or}
-use Rattle.std.proofs.lemmas.List.{length-replicate}
+use Rattle.std.specs.Prelude.{ℕ, ◌+◌, ◌≤◌, ◌<◌, ◌≡◌, ◌⊎◌, List, length, get_or, set, replicate, drop, slice_range, ◌-◌}
+use Rattle.std.proofs.Common.{sym, subst, ◌∙◌, inl, inr, arith, eq-or-lt_of_le, length-set, get_or-set_same, get_or-set_other, ext_get_or, length-drop}
+use Rattle.std.proofs.lemmas.List.{length-replicate, length-take-le, get_or-take, get_or-drop}
 use Rattle.rules.specs.Slots.{list_of}
 use Rattle.rules.specs.laws.Slots.{length_list_of, getD_list_of}
 
@@ -26,3 +26,11 @@ module _ {A : Type 0} (n : ℕ) (f : ℕ → A) (z : A) where
   taken_all {i} {l} t h =
       let s = t.size in
       ext_get_or z l (list_of n f) (s ∙ sym (length_list_of n f)) (λ j k. t.shows j (omega arith) ∙ sym (getD_list_of n f z j (omega arith)))
+
+-- A slice of a list, entry by entry.
+pub slice_is_list : {A : Type 0} (at n : ℕ) (z : A) (l : List A) → at + n ≤ length l → slice_range l at (at + n) ≡ list_of n (λ i. get_or l (at + i) z)
+slice_is_list at n z l h =
+    let fits : (at + n) - at ≤ length (drop at l) = rw (length-drop at l) (omega arith) in
+    let size : length (slice_range l at (at + n)) ≡ n = length-take-le ((at + n) - at) (drop at l) fits ∙ omega arith in
+    ext_get_or z _ _ (size ∙ sym (length_list_of n _)) (λ i k.
+    get_or-take ((at + n) - at) (drop at l) i z (omega arith) ∙ get_or-drop at l i z ∙ sym (getD_list_of n (λ j. get_or l (at + j) z) z i (omega arith)))

@@ -1,9 +1,11 @@
 -- The number of bytes decides.
+use mathlib.Core.Path.{ap, ◌∙◌}
+use Rattle.fields.specs.Record.{record_of}
 use Rattle.fields.specs.laws.Record.{handed_record, handed_no_record}
 use Rattle.fields.proofs.record_bytes.record_in.Goals as goal
 
-pub returns-then-bytes-eq1894 : goal.returns-then-bytes-eq1894
-returns-then-bytes-eq1894 c = handed_record _ c.if-bytes-eq1894.true c.record_of.ensures
+pub returns-in-Some : goal.returns-in-Some
+returns-in-Some c = handed_record _ c.in-Some.ensures.cases.long (c.record_of.ensures ∙ ap record_of c.in-Some.ensures.cases.same)
 
-pub returns : goal.returns
-returns c = handed_no_record _ c.if-bytes-eq1894.false c.sized.ensures
+pub returns-in-None : goal.returns-in-None
+returns-in-None c = handed_no_record _ c.in-None.ensures.cases c.sized.ensures

@@ -1,7 +1,7 @@
 // Everything that a decision list forces.
 ghost use Rattle.forced.specs.Forced.{ForcedBy};
 
-use crate::parts::{dropped_options, dropped_orderings, kept_options, meets};
+use crate::parts::{contradicts, dropped_options, dropped_orderings, kept_options};
 use chart::Chart;
 use given::Given;
 
@@ -27,17 +27,23 @@ pub fn force(chart: &Chart, g: Given) -> Forced
     let kept = kept_options(g.kept, kept_orderings, first, second, n, m);
     let start = graph::put_orderings(chart.rows, kept_orderings, first, second, n, m);
     let known = graph::join_through_all(start, kept, n);
-    let dropped = dropped_options(g.dropped, known, n);
-    let lost = dropped_orderings(g.dropped_orderings, dropped, known, first, second, n, m);
-    let x = meets(kept as u64, dropped as u64, n);
-    let y = meets(kept_orderings, lost, m);
-    let contradiction = rows::either(x, y);
+    let dropped = dropped_options(g.dropped, &known, n);
+    let dropped_orderings = dropped_orderings(
+        g.dropped_orderings,
+        dropped,
+        &known,
+        first,
+        second,
+        n,
+        m,
+    );
+    let contradiction = contradicts(kept, dropped, kept_orderings, dropped_orderings, n, m);
     Forced {
-        kept: kept,
-        dropped: dropped,
-        kept_orderings: kept_orderings,
-        dropped_orderings: lost,
-        known: known,
-        contradiction: contradiction,
+        kept,
+        dropped,
+        kept_orderings,
+        dropped_orderings,
+        known,
+        contradiction,
     }
 }

@@ -20,91 +20,74 @@ pub fn kept_options(
     requires { EndsAreSlots n m first.now second.now }
     ensures { KeptWithEnds given kept_orderings first.now second.now m result }
 {
-    let mut k = given;
-    let mut u: usize = 0;
-    while u < m {
+    let mut kept = given;
+    for u in 0..m {
         let yes = kept_orderings.get(u);
-        let a = first[u] as usize;
-        let b = second[u] as usize;
-        let x = k.put_if(a, yes);
-        k = x.put_if(b, yes);
-        u += 1;
+        let a = usize::from(first[u]);
+        let b = usize::from(second[u]);
+        kept = kept.put_if(a, yes).put_if(b, yes);
     }
-    k
+    kept
 }
 
 // The dropped options: those given, and those known before themselves.
-pub fn dropped_options(given: u32, t: [u32; 32], n: usize) -> u32
+pub fn dropped_options(given: u32, t: &[u32; 32], n: usize) -> u32
     requires { n ≤ 32 }
-    ensures { Holds result n (λ i. has given i || has (get_or t i 0) i) }
+    ensures { Holds result n (λ i. has given i || has (get_or t.now i 0) i) }
 {
-    let mut k: u32 = 0;
-    let mut i: usize = 0;
-    while i < n {
-        let g = given.get(i);
-        let row = t[i];
-        let o = row.get(i);
-        let yes = rows::either(g, o);
-        k = k.put_if(i, yes);
-        i += 1;
-    }
-    k
+    rows::set_where(n, |i| given.get(i) || t[i].get(i))
 }
 
 // Whether an ordering a before b has lost an option, or b is known before a.
-pub fn is_against(dropped: u32, t: [u32; 32], a: usize, b: usize) -> bool
+pub fn is_against(dropped: u32, t: &[u32; 32], a: usize, b: usize) -> bool
     requires { (a < 32) × (b < 32) }
-    ensures { result ≡ (has dropped a || (has dropped b || has (get_or t b 0) a)) }
+    ensures { result ≡ (has dropped a || (has dropped b || has (get_or t.now b 0) a)) }
 {
-    let x = dropped.get(a);
-    let y = dropped.get(b);
-    let row = t[b];
-    let z = row.get(a);
-    let w = rows::either(y, z);
-    rows::either(x, w)
+    dropped.get(a) || dropped.get(b) || t[b].get(a)
 }
 
 // The dropped orderings: those given, and those against what is known.
 pub fn dropped_orderings(
     given: u64,
     dropped: u32,
-    t: [u32; 32],
+    t: &[u32; 32],
     first: &[u8],
     second: &[u8],
     n: usize,
     m: usize,
 ) -> u64
     requires { EndsAreSlots n m first.now second.now }
-    ensures { Holds result m (λ u. has given u || (has dropped (get_or first.now u 0) || (has dropped (get_or second.now u 0) || has (get_or t (get_or second.now u 0) 0) (get_or first.now u 0)))) }
+    ensures { Holds result m (λ u. has given u || (has dropped (get_or first.now u 0) || (has dropped (get_or second.now u 0) || has (get_or t.now (get_or second.now u 0) 0) (get_or first.now u 0)))) }
 {
-    let mut k: u64 = 0;
-    let mut u: usize = 0;
-    while u < m {
-        let g = given.get(u);
-        let a = first[u] as usize;
-        let b = second[u] as usize;
-        let o = is_against(dropped, t, a, b);
-        let yes = rows::either(g, o);
-        k = k.put_if(u, yes);
-        u += 1;
-    }
-    k
+    rows::set_where(m, |u| {
+        given.get(u) || is_against(dropped, t, usize::from(first[u]), usize::from(second[u]))
+    })
 }
 
 // Whether two sets meet.
+#[tactic(auto, using(rows::specs::laws::Slots::some_more), unfolding(rules::specs::Slots::some_below))]
 pub fn meets(a: u64, b: u64, n: usize) -> bool
     requires { n ≤ 64 }
     ensures { result ≡ some_below n (λ i. has a i && has b i) }
 {
-    let mut r = false;
-    let mut i: usize = 0;
-    while i < n {
-        let x = a.get(i);
-        let y = b.get(i);
-        let z = rows::both(x, y);
-        let w = rows::either(r, z);
-        r = w;
-        i += 1;
+    let mut meet = false;
+    for i in 0..n {
+        meet = meet || a.get(i) && b.get(i);
     }
-    r
+    meet
+}
+
+// Whether an option or an ordering is both kept and dropped.
+pub fn contradicts(
+    kept: u32,
+    dropped: u32,
+    kept_orderings: u64,
+    dropped_orderings: u64,
+    n: usize,
+    m: usize,
+) -> bool
+    requires { (n ≤ 32) × (m ≤ 64) }
+    ensures { result ≡ (some_below n (λ i. has kept i && has dropped i) || some_below m (λ u. has kept_orderings u && has dropped_orderings u)) }
+{
+    meets(u64::from(kept), u64::from(dropped), n) || meets(kept_orderings, dropped_orderings, m)
 }

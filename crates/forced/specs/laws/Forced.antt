@@ -100,13 +100,13 @@ module _ (v : Subscription) (b : DecidedBySlot) (n m : ℕ) (firsts seconds t : 
         some_same m (λ u. has g.kept_orderings u && has lost u) (λ u. ordering_kept s b u && ordering_dropped s b u) (λ u l. rw (holds_at orderings_kept u l, holds_at orderings_dropped u l) refl),
       ) refl
 
-      pub forced_as : (x y c : Bool) → x ≡ some_below n (λ i. has kept i && has dropped i) → y ≡ some_below m (λ u. has g.kept_orderings u && has lost u) → c ≡ (x || y)
+      pub forced_as : (c : Bool) → c ≡ (some_below n (λ i. has kept i && has dropped i) || some_below m (λ u. has g.kept_orderings u && has lost u))
           → ForcedAs s b (record { kept = kept; dropped = dropped; kept_orderings = g.kept_orderings; dropped_orderings = lost; known = knows; contradiction = c })
-      forced_as x y c ex ey ec = record {
+      forced_as c ec = record {
         kept = options_kept;
         dropped = options_dropped;
         kept_orderings = orderings_kept;
         dropped_orderings = orderings_dropped;
         known = known_table;
-        contradicts = ec ∙ rw (ex, ey) contradiction_is;
+        contradicts = ec ∙ contradiction_is;
       }

@@ -15,11 +15,11 @@ kept_with_ends_none given kept_orderings firsts seconds = record { at = λ j. or
     or_no true = refl
     or_no false = refl
 
-pub kept_with_ends_step : (given kept_orderings : ℕ) (firsts seconds : List ℕ) {u r x s : ℕ} {y : Bool} → KeptWithEnds given kept_orderings firsts seconds u r → y ≡ has kept_orderings u
-    → x ≡ with_if r (get_or firsts u 0) y → s ≡ with_if x (get_or seconds u 0) y → KeptWithEnds given kept_orderings firsts seconds (u + 1) s
-kept_with_ends_step given kept_orderings firsts seconds {u} {r} {x} {s} {y} w e f g = record {
+pub kept_with_ends_step : (given kept_orderings : ℕ) (firsts seconds : List ℕ) {u r a b x s : ℕ} {y : Bool} → KeptWithEnds given kept_orderings firsts seconds u r → y ≡ has kept_orderings u
+    → a ≡ get_or firsts u 0 → b ≡ get_or seconds u 0 → x ≡ with_if r a y → s ≡ with_if x b y → KeptWithEnds given kept_orderings firsts seconds (u + 1) s
+kept_with_ends_step given kept_orderings firsts seconds {u} {r} {a} {b} {x} {s} {y} w e ea eb f g = record {
   at = λ j.
-      rw (g, has_with_if x (get_or seconds u 0) y j, f, has_with_if r (get_or firsts u 0) y j, w.at j, e, some_more u (kept_touching kept_orderings firsts seconds j))
+      rw (g, has_with_if x b y j, f, has_with_if r a y j, w.at j, e, ea, eb, some_more u (kept_touching kept_orderings firsts seconds j))
       (go (has given j) (some_below u (kept_touching kept_orderings firsts seconds j)) (has kept_orderings u) (eqb (get_or firsts u 0) j) (eqb (get_or seconds u 0) j));
 }
   where

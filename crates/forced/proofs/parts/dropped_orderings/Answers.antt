@@ -1,11 +1,7 @@
--- Each turn puts one ordering in if it is given, or against what is known.
-use mathlib.Core.Path.{refl, ◌∙◌}
-use native.Mathlib.Omega.{arith}
-use Rattle.rows.specs.laws.Sets.{holds_none, holds_step}
+-- An ordering is tested by itself: it is given, or against what is known.
+use Rattle.std.proofs.Common.{rules}
+use Rattle.rows.specs.laws.Sets.{holds_where}
 use Rattle.forced.proofs.parts.dropped_orderings.Goals as goal
 
-pub loop-u-init : goal.loop-u-init
-loop-u-init c = (omega arith, holds_none _)
-
-pub loop-u-preserved : goal.loop-u-preserved
-loop-u-preserved c = (omega arith, holds_step _ c.loop-u.invariant.1 (c.either-yes.ensures ∙ rw (c.is_against-o.ensures, c.get-g.ensures) refl) c.put_if-k.ensures)
+pub returns : goal.returns
+returns c = holds_where _ (λ k l. let p = c.set_where.ensures.below k l in search rules) c.set_where.ensures.above

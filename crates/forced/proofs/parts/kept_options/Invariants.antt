@@ -1,10 +1,6 @@
 -- Each turn puts in both options of one ordering, if it is kept.
-use Prim.Native.Nat.{◌-◌, ◌≤◌}
 use Rattle.forced.specs.Forced.{KeptWithEnds}
 use Rattle.forced.proofs.parts.kept_options.Given as goal
 
 abbrev pub invariant-loop-u : goal.invariant-loop-u
-invariant-loop-u l = (l.u ≤ l.m) × KeptWithEnds l.given l.kept_orderings l.first l.second l.u l.k
-
-abbrev pub decreases-loop-u : goal.decreases-loop-u
-decreases-loop-u l = l.m - l.u
+invariant-loop-u l = KeptWithEnds l.given l.kept_orderings l.first l.second l.u l.kept

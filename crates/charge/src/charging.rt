@@ -60,6 +60,17 @@ pub fn charge(chart: &Chart, known: &[u32], chain: &[u8], len: usize, left: &mut
     let t = measure_all(chart, &*left, chain, len);
     let e = t.least;
     let was = t.was;
-    take_all(chart, left, chain, len, e, was);
+    take_all(
+        &chart.firsts,
+        &chart.seconds,
+        chart.option_count,
+        chart.ordering_count,
+        &mut left.options,
+        &mut left.orderings,
+        chain,
+        len,
+        e,
+        was,
+    );
     e
 }

@@ -12,30 +12,14 @@ pub struct Left {
     pub orderings: [u32; 64],
 }
 
-pub fn start_options(set: u32, weights: &[u16], n: usize) -> [u32; 32]
-    requires { (n ≤ 32) × (n ≤ length weights.now) }
-    ensures { StartsAs set weights.now 32 n result }
+// The weights of the items of a set, and nothing from slot n on.
+pub fn weights_of<S: Slots, const N: usize>(set: S, weights: &[u16], n: usize) -> [u32; N]
+    requires { (n ≤ N) × (n ≤ S.width) × (n ≤ length weights.now) }
+    ensures { StartsAs (S.bits set) weights.now N n result }
 {
-    let mut left: [u32; 32] = [0; 32];
-    let mut i: usize = 0;
-    while i < n {
-        let yes = set.get(i);
-        left[i] = half::weight_if(yes, weights[i]);
-        i += 1;
-    }
-    left
-}
-
-pub fn start_orderings(set: u64, weights: &[u16], m: usize) -> [u32; 64]
-    requires { (m ≤ 64) × (m ≤ length weights.now) }
-    ensures { StartsAs set weights.now 64 m result }
-{
-    let mut left: [u32; 64] = [0; 64];
-    let mut u: usize = 0;
-    while u < m {
-        let yes = set.get(u);
-        left[u] = half::weight_if(yes, weights[u]);
-        u += 1;
+    let mut left: [u32; N] = [0; N];
+    for (i, w) in weights[..n].iter().enumerate() {
+        left[i] = half::weight_if(set.get(i), *w);
     }
     left
 }
@@ -45,8 +29,8 @@ pub fn start(chart: &Chart, open_options: u32, open_orderings: u64) -> Left
     ensures orderings { StartsAs open_orderings chart.now.ordering_weights 64 chart.now.ordering_count result.orderings }
 {
     Left {
-        options: start_options(open_options, &chart.weights, chart.option_count),
-        orderings: start_orderings(
+        options: weights_of(open_options, &chart.weights, chart.option_count),
+        orderings: weights_of(
             open_orderings,
             &chart.ordering_weights,
             chart.ordering_count,

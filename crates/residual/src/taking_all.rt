@@ -1,27 +1,36 @@
 // Taking as much from the consequences of every member of a chain.
 ghost use Rattle.std.specs.Prelude.{◌≤◌, length};
+ghost use Rattle.graph.specs.Graph.{EndsAreSlots};
 ghost use Rattle.links.specs.Links.{AllNamed};
-ghost use Rattle.residual.specs.Left.{LeftFor};
+ghost use Rattle.residual.specs.Taken.{LeftIn};
 ghost use Rattle.residual.specs.TakenAll.{Measured, Gave};
 
-use crate::starting::Left;
-use crate::taking::{held_by, take};
-use chart::Chart;
+use crate::taking::{held_among, take};
 
-// Each member's consequences give e in all: what others took from them counts.
-pub fn take_all(chart: &Chart, left: &mut Left, chain: &[u8], len: usize, e: u32, was: [u32; 64])
-    requires chain_fits { AllNamed chain.now len chart.now.option_count chart.now.ordering_count × (len ≤ length chain.now) × (len ≤ 64) × LeftFor chart.now left.old }
-    requires measured { Measured chart.now.firsts chart.now.seconds chart.now.option_count chart.now.ordering_count left.old.options left.old.orderings chain.now len e was × (e ≤ 4259775) }
-    ensures { Gave chart.now.firsts chart.now.seconds chart.now.option_count chart.now.ordering_count chain.now e len left.old.options left.old.orderings left.new.options left.new.orderings }
+// Each member's consequences give e in all: what others took from them counts. The arrays and the counts stay apart: this call is told of in
+// docs/DECISIONS.md and may ask for no chart.
+pub fn take_all(
+    first: &[u8],
+    second: &[u8],
+    n: usize,
+    m: usize,
+    options: &mut [u32],
+    orderings: &mut [u32],
+    chain: &[u8],
+    len: usize,
+    e: u32,
+    was: [u32; 64],
+)
+    requires chain_fits { EndsAreSlots n m first.now second.now × AllNamed chain.now len n m × (len ≤ length chain.now) × (len ≤ 64) × LeftIn n m options.old orderings.old }
+    requires measured { Measured first.now second.now n m options.old orderings.old chain.now len e was × (e ≤ 4259775) }
+    ensures { Gave first.now second.now n m chain.now e len options.old orderings.old options.new orderings.new }
 {
-    let mut q: usize = 0;
-    while q < len {
+    for q in 0..len {
         let x = chain[q];
-        let h = held_by(chart, &*left, x);
+        let h = held_among(first, second, n, m, &*options, &*orderings, x);
         let w = was[q];
         if w < h + e {
-            take(chart, left, x, h + e - w);
+            take(first, second, n, m, options, orderings, x, h + e - w);
         }
-        q += 1;
     }
 }

@@ -8,29 +8,17 @@ use sheet::Decision;
 pub fn is_open(c: Decision) -> bool
     ensures { result ≡ is_open (decided c) }
 {
-    match c {
-        Decision::Open => true,
-        Decision::Kept => false,
-        Decision::Dropped => false,
-    }
+    c == Decision::Open
 }
 
 pub fn is_kept(c: Decision) -> bool
     ensures { result ≡ is_kept (decided c) }
 {
-    match c {
-        Decision::Open => false,
-        Decision::Kept => true,
-        Decision::Dropped => false,
-    }
+    c == Decision::Kept
 }
 
 pub fn is_dropped(c: Decision) -> bool
     ensures { result ≡ is_dropped (decided c) }
 {
-    match c {
-        Decision::Open => false,
-        Decision::Kept => false,
-        Decision::Dropped => true,
-    }
+    c == Decision::Dropped
 }

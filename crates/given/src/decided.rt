@@ -12,45 +12,35 @@ use sheet::Decision;
 pub fn decided(kept: bool, dropped: bool) -> Decision
     ensures { result ≡ choice_of (decision_of kept dropped) }
 {
-    if kept {
-        return Decision::Kept;
+    match (kept, dropped) {
+        (true, _) => Decision::Kept,
+        (false, true) => Decision::Dropped,
+        (false, false) => Decision::Open,
     }
-    if dropped {
-        return Decision::Dropped;
+}
+
+// The decisions about the first n of N items.
+pub fn all_decided<S: Slots, const N: usize>(kept: S, dropped: S, n: usize) -> [Decision; N]
+    requires { (n ≤ N) × (n ≤ S.width) }
+    ensures { result ≡ filled N n (λ i. choice_of (decision_of (has (S.bits kept) i) (has (S.bits dropped) i))) undecided }
+{
+    let mut list = [Decision::Open; N];
+    for i in 0..n {
+        list[i] = decided(kept.get(i), dropped.get(i));
     }
-    Decision::Open
+    list
 }
 
 pub fn options_decided(kept: u32, dropped: u32, n: usize) -> [Decision; 32]
     requires { n ≤ 32 }
     ensures { result ≡ filled 32 n (λ i. choice_of (decision_of (has kept i) (has dropped i))) undecided }
 {
-    let o = Decision::Open;
-    let mut l = [o; 32];
-    let mut i: usize = 0;
-    while i < n {
-        let x = kept.get(i);
-        let y = dropped.get(i);
-        let c = decided(x, y);
-        l[i] = c;
-        i += 1;
-    }
-    l
+    all_decided(kept, dropped, n)
 }
 
 pub fn orderings_decided(kept: u64, dropped: u64, m: usize) -> [Decision; 64]
     requires { m ≤ 64 }
     ensures { result ≡ filled 64 m (λ u. choice_of (decision_of (has kept u) (has dropped u))) undecided }
 {
-    let o = Decision::Open;
-    let mut l = [o; 64];
-    let mut u: usize = 0;
-    while u < m {
-        let x = kept.get(u);
-        let y = dropped.get(u);
-        let c = decided(x, y);
-        l[u] = c;
-        u += 1;
-    }
-    l
+    all_decided(kept, dropped, m)
 }

@@ -21,18 +21,12 @@ pub fn put_orderings(
     requires { EndsAreSlots n m first.now second.now }
     ensures { WithOrderings t kept_orderings first.now second.now m result }
 {
-    let mut k = t;
-    let mut u: usize = 0;
-    while u < m {
-        let yes = kept_orderings.get(u);
-        let a = first[u] as usize;
-        let b = second[u] as usize;
-        let row = k[a];
-        let more = row.put_if(b, yes);
-        k[a] = more;
-        u += 1;
+    let mut table = t;
+    for u in 0..m {
+        let from = usize::from(first[u]);
+        table[from] = table[from].put_if(usize::from(second[u]), kept_orderings.get(u));
     }
-    k
+    table
 }
 
 // Every row joined through c.
@@ -41,16 +35,11 @@ pub fn join_through(t: [u32; 32], c: usize, n: usize) -> [u32; 32]
     ensures { JoinedThrough t c n result }
 {
     let from = t[c];
-    let mut k = t;
-    let mut i: usize = 0;
-    while i < n {
-        let row = t[i];
-        let yes = row.get(c);
-        let more = rows::join_if(row, from, yes);
-        k[i] = more;
-        i += 1;
+    let mut table = t;
+    for i in 0..n {
+        table[i] = rows::join_if(t[i], from, t[i].get(c));
     }
-    k
+    table
 }
 
 // Every row joined through every middle.
@@ -58,14 +47,12 @@ pub fn join_through_all(t: [u32; 32], middles: u32, n: usize) -> [u32; 32]
     requires { n ≤ 32 }
     ensures { JoinedThroughAll t middles n n result }
 {
-    let mut k = t;
-    let mut c: usize = 0;
-    while c < n {
+    let mut table = t;
+    for c in 0..n {
         if middles.get(c) {
-            let v = join_through(k, c, n);
-            k = v;
+            let joined = join_through(table, c, n);
+            table = joined;
         }
-        c += 1;
     }
-    k
+    table
 }

@@ -5,6 +5,7 @@ ghost use Rattle.rows.specs.Bits.{has};
 use crate::Slots;
 
 // Those below n.
+#[tactic(auto, using(crate::specs::laws::Bits::has_none, crate::specs::laws::Sets::has_put_same, crate::specs::laws::Sets::has_put_other))]
 pub fn set_where<S: Slots, F: Fn(usize) -> bool>(n: usize, test: F) -> S
     requires within { n ≤ S.width }
     requires callable { (k : ℕ) → k < n → F.pre test k }

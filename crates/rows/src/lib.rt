@@ -1,6 +1,6 @@
 // Rows: a set of slots as the bits of one word; options in 32 bits, orderings in 64.
 // For the crates above: a slot handed in must be one of the word's.
-#![tactic(auto)]
+#![tactic(auto, unfolding(crate::specs::Bits::has, crate::specs::Bits::with, crate::specs::Bits::with_if))]
 
 mod chosen;
 mod options;

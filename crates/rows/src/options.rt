@@ -1,4 +1,6 @@
 // Sets of options put together.
+#![tactic(auto, unfolding(crate::specs::Bits::joined, crate::specs::Bits::joined_if, crate::specs::Bits::met, crate::specs::Bits::turned))]
+
 ghost use Rattle.std.specs.Prelude.{◌≡◌, ◌<◌};
 ghost use Rattle.rows.specs.Bits.{joined, met, joined_if, turned};
 

@@ -1,22 +1,22 @@
-// Tests as calls: a call leaves one equation in a loop's proof, a branch leaves two ways.
+// Tests as calls, for the crates above that still go by them.
 ghost use Rattle.std.specs.Prelude.{◌≡◌, not, ◌&&◌, ◌||◌, eqb};
 
 pub fn either(a: bool, b: bool) -> bool
     ensures { result ≡ (a || b) }
 {
-    if a { true } else { b }
+    a || b
 }
 
 pub fn both(a: bool, b: bool) -> bool
     ensures { result ≡ (a && b) }
 {
-    if a { b } else { false }
+    a && b
 }
 
 pub fn neither(a: bool, b: bool) -> bool
     ensures { result ≡ not (a || b) }
 {
-    if a { false } else { !b }
+    !(a || b)
 }
 
 pub fn differ(i: usize, j: usize) -> bool

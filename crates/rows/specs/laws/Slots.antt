@@ -1,9 +1,10 @@
 -- Tests, lists and joins over slots depend only on the slots that they look at.
-use Rattle.std.specs.Prelude.{◌≡◌, refl, Bool, false, ◌||◌, ℕ, zero, suc, ◌+◌, ◌<◌}
-use Rattle.std.proofs.Common.{sym, ap, ◌∙◌, arith, add-one}
+use Rattle.std.specs.Prelude.{◌≡◌, refl, Bool, true, false, ◌||◌, ℕ, zero, suc, ◌+◌, ◌<◌, T}
+use Rattle.std.proofs.Common.{sym, subst, ap, ◌∙◌, arith, add-one}
 use mathlib.Core.List.{List, [], ◌∷◌, Memᴰ}
 use Rattle.rules.specs.Slots.{some_below, slots}
 use Rattle.rules.specs.Joined.{through}
+use Rattle.rules.specs.laws.Slots.{some_in}
 
 -- one slot more
 pub some_more : (i : ℕ) (p : ℕ → Bool) → some_below (i + 1) p ≡ (some_below i p || p i)
@@ -32,6 +33,18 @@ through_same n b e (c ∷ cs) m h i j li lj =
     let lc = m c (Memᴰ.head refl) in
     let m' : (x : ℕ) → Memᴰ x cs → x < n = λ x k. m x (Memᴰ.tail k) in
     rw (through_same n b e cs m' h i j li lj, through_same n b e cs m' h i c li lc, through_same n b e cs m' h c j lc lj) refl
+
+pub some_at : (n : ℕ) (p : ℕ → Bool) (i : ℕ) → i < n → p i ≡ true → some_below n p ≡ true
+some_at n p i l e = go (some_below n p) refl (some_in n p i l (subst T (sym e) tt))
+  where
+    go : (b : Bool) → some_below n p ≡ b → T (some_below n p) → some_below n p ≡ true
+    go true q t = q
+    go false q t = absurd (subst T q t)
+
+-- An answer that is yes exactly where some slot passes.
+pub some_told : (n : ℕ) (p : ℕ → Bool) (b : Bool) → (b ≡ true → (i : ℕ) × (i < n) × (p i ≡ true)) → (b ≡ false → (i : ℕ) → i < n → p i ≡ false) → b ≡ some_below n p
+some_told n p true found absent = let (i, l, e) = found refl in sym (some_at n p i l e)
+some_told n p false found absent = sym (some_none n p (absent refl))
 
 -- How a loop looks for a slot that passes, and where it ends.
 pub some_step : (p : ℕ → Bool) {i : ℕ} {r y w : Bool} → r ≡ some_below i p → y ≡ p i → w ≡ (r || y) → w ≡ some_below (i + 1) p

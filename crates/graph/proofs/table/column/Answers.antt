@@ -1,10 +1,7 @@
--- Each turn looks at one row.
-use Rattle.rows.specs.laws.Sets.{holds_none, holds_step}
-use native.Mathlib.Omega.{arith}
+-- The column is the set of the rows that hold j.
+use Rattle.std.proofs.Common.{rules}
+use Rattle.rows.specs.laws.Sets.{holds_where}
 use Rattle.graph.proofs.table.column.Goals as goal
 
-pub loop-i-init : goal.loop-i-init
-loop-i-init c = (omega arith, holds_none _)
-
-pub loop-i-preserved : goal.loop-i-preserved
-loop-i-preserved c = (omega arith, holds_step _ c.loop-i.invariant.1 c.get-yes.ensures c.put_if-k.ensures)
+pub returns : goal.returns
+returns c = holds_where _ (λ k l. let p = c.set_where.ensures.below k l in search rules) c.set_where.ensures.above

@@ -1,9 +1,9 @@
-// Numbers and lines, printed into a lent buffer.
-// For the crates above: the buffer must have room for what is printed.
+// Numbers and lines, printed on a page: a lent buffer, from its start on.
+// For the crates above: the page must have room for what is printed.
 #![tactic(auto)]
 
-mod line;
 mod number;
+mod page;
 
-pub use line::{put_one, put_three, put_two};
 pub use number::decimal_width;
+pub use page::Page;

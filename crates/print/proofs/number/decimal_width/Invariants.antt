@@ -6,7 +6,7 @@ use Rattle.shape.specs.LineText.{decimal}
 use Rattle.print.proofs.number.decimal_width.Given as goal
 
 abbrev pub invariant-loop-rest : goal.invariant-loop-rest
-invariant-loop-rest l = (l.w + length (decimal l.rest) ≡ 1 + length (decimal l.n)) × (l.w + l.rest ≤ 1 + l.n)
+invariant-loop-rest l = (l.width + length (decimal l.rest) ≡ 1 + length (decimal l.n)) × (l.width + l.rest ≤ 1 + l.n)
 
 abbrev pub decreases-loop-rest : goal.decreases-loop-rest
 decreases-loop-rest l = l.rest

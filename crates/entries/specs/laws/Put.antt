@@ -1,7 +1,9 @@
 -- How a loop fills a lent output, entry by entry.
-use Rattle.std.specs.Prelude.{ℕ, zero, suc, ◌+◌, ◌*◌, ◌≤◌, ◌≡◌, refl, List, [], ◌∷◌, ◌++◌, length, set}
+use Rattle.std.specs.Prelude.{ℕ, zero, suc, ◌+◌, ◌-◌, ◌*◌, ◌≤◌, ◌≡◌, refl, List, [], ◌∷◌, ◌++◌, length, set, take, drop}
 use Rattle.std.proofs.Math.Path.{sym}
-use Rattle.std.proofs.Common.{ap, ◌∙◌, arith, le_antisymm, add-one}
+use Rattle.std.proofs.Common.{ap, ◌∙◌, arith, le_antisymm, add-one, append_assoc, length-set}
+use Rattle.std.proofs.lemmas.List.{take-append-drop, take_more_set, drop-set-lt}
+use borrow.Rule.Slice.PartMut.{put_mid, Post-is}
 use Rattle.rules.specs.Slots.{list_of}
 use Rattle.rules.specs.laws.Slots.{length_list_of}
 use Rattle.print.specs.Put.{put}
@@ -65,6 +67,24 @@ put_then at k l m before {out} e h q = q ∙ ap (λ j. put j m out) (sym h) ∙ 
 
 pub put_same_length : (at : ℕ) (l before : List ℕ) {out : List ℕ} → out ≡ put at l before → length out ≡ length before
 put_same_length at l before e = ap length e ∙ put_length at l before
+
+-- ---- a part written at once
+slice_put : (at : ℕ) (l out : List ℕ) → at + length l ≤ length out → take at out ++ (l ++ drop (at + length l) out) ≡ put at l out
+unfolding put
+slice_put at [] out h = let e : at + 0 ≡ at = omega arith in rw e (take-append-drop at out)
+slice_put at (b ∷ l) out h =
+    let e : at + suc (length l) ≡ at + 1 + length l = omega arith in
+    ap (λ n. take at out ++ (b ∷ l ++ drop n out)) e
+    ∙ sym (append_assoc (take at out) (b ∷ []) (l ++ drop (at + 1 + length l) out))
+    ∙ ap (λ t. t ++ (l ++ drop (at + 1 + length l) out)) (sym (take_more_set out at b (omega arith)))
+    ∙ ap (λ r. take (at + 1) (set out at b) ++ (l ++ r)) (sym (drop-set-lt (at + 1 + length l) out at b (omega arith)))
+    ∙ slice_put (at + 1) l (set out at b) (rw (length-set out at b) (omega arith))
+
+pub slice_written : (at n : ℕ) (l out : List ℕ) {part : List ℕ} → part ≡ l → length l ≡ n → at + n ≤ length out → put_mid at ((at + n) - at) out part ≡ put at l out
+slice_written at n l out e k h =
+    ap (put_mid at ((at + n) - at) out) e
+    ∙ ap (λ r. take at out ++ (l ++ r)) (Post-is at (at + n) out (omega arith) ∙ ap (λ j. drop (at + j) out) (sym k))
+    ∙ slice_put at l out (omega arith)
 
 pub put_two : (a b : ℕ) (before : List ℕ) → set (set before 0 a) 1 b ≡ put 0 (a ∷ b ∷ []) before
 unfolding put

@@ -1,15 +1,15 @@
 -- The bytes of a record spell that record.
 use Rattle.std.specs.Prelude.{ℕ, zero, suc, ◌+◌, ◌*◌, ◌/◌, ◌%◌, ◌<◌, ◌≡◌, refl, ◌⊎◌, List, [], ◌++◌, length, get_or, drop}
-use Rattle.std.proofs.Common.{sym, subst, ◌∙◌, inl, inr, append_assoc, append-nil, arith, div-add-mod', eq-or-lt_of_le, drop-drop, drop_at, get_or-drop, get_or-append-add, ext_get_or}
+use Rattle.std.proofs.Common.{sym, subst, ◌∙◌, inl, inr, append_assoc, append-nil, arith, div-add-mod', eq-or-lt_of_le, drop-drop, drop_at, get_or-drop, get_or-append-add}
 use Rattle.std.proofs.Math.Path.{ap}
 use Rattle.std.proofs.Math.ListN.{get_or-append}
-use Rattle.rules.specs.laws.Slots.{length_list_of, getD_list_of, list_of_same}
+use Rattle.rules.specs.laws.Slots.{getD_list_of, list_of_same}
 use Rattle.entries.specs.laws.Parts.{parts_more}
 use Rattle.sheet.specs.Recorded.{Lengths, Recorded}
 use Rattle.sheet.specs.declared.sheet.Sheet.{Sheet}
 use Rattle.fields.specs.Record.{two_at, bytes_at, twos_at, record_of, two_bytes, twos_of, bytes_in, tail_of, bytes_of}
 use Rattle.fields.specs.laws.Record.{same_sheet}
-use Rattle.fields.specs.laws.Lengths.{twos_length, bytes_length}
+use Rattle.fields.specs.laws.Lengths.{twos_length, bytes_length, bytes_are}
 
 -- ---- a part that stands in a list from `at` on
 module _ (b p r : List ℕ) (at : ℕ) (e : drop at b ≡ p ++ r) where
@@ -18,9 +18,6 @@ module _ (b p r : List ℕ) (at : ℕ) (e : drop at b ≡ p ++ r) where
 
   past : (n k : ℕ) → length p ≡ n → k ≡ at + n → drop k b ≡ r
   past n k h g = ap (λ j. drop j b) g ∙ sym (drop-drop n at b) ∙ ap (drop n) e ∙ drop_at p r n h
-
-entries : (n : ℕ) (l : List ℕ) → length l ≡ n → bytes_in n l ≡ l
-entries n l h = ext_get_or 0 (bytes_in n l) l (length_list_of n _ ∙ sym h) (λ i k. getD_list_of n (λ j. get_or l j 0) 0 i (let q = bytes_length n l in omega arith))
 
 -- ---- numbers of two bytes
 whole : (x : ℕ) → x % 256 + 256 * (x / 256) ≡ x
@@ -51,10 +48,10 @@ module _ (b r : List ℕ) (at : ℕ) where
   bytes_back : (n : ℕ) (l : List ℕ) → length l ≡ n → drop at b ≡ bytes_in n l ++ r → bytes_at n b at ≡ l
   bytes_back n l h e =
       list_of_same n _ _ (λ i k. there b (bytes_in n l) r at e i (at + i) refl (let q = bytes_length n l in omega arith) ∙ getD_list_of n (λ j. get_or l j 0) 0 i k)
-      ∙ entries n l h
+      ∙ bytes_are n l h
 
   twos_back : (n : ℕ) (l : List ℕ) → length l ≡ n → drop at b ≡ twos_of n l ++ r → twos_at n b at ≡ l
-  twos_back n l h e = list_of_same n _ _ one ∙ entries n l h
+  twos_back n l h e = list_of_same n _ _ one ∙ bytes_are n l h
     where
       one : (i : ℕ) → i < n → two_at b (at + 2 * i) ≡ get_or l i 0
       one i k =

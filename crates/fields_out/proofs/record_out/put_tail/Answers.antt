@@ -4,10 +4,10 @@ use Rattle.fields_out.proofs.record_out.put_tail.Goals as goal
 
 pub returns : goal.returns
 returns c =
-    tail_put c.args.s c.args.out.now
-    c.put_bytes_512.ensures
-    c.put_bytes_512-2.ensures
-    c.put_bytes_512-3.ensures
-    c.put_bytes_32.ensures
-    c.put_bytes_64.ensures
-    c.put_bytes_64-2.ensures
+    tail_put c.args.s.now c.args.out.now
+    c.put_bytes.ensures
+    c.put_bytes-2.ensures
+    c.put_bytes-3.ensures
+    c.put_bytes-4.ensures
+    c.put_bytes-5.ensures
+    c.put_bytes-6.ensures

@@ -24,49 +24,26 @@ pub fn clash_row(t: &[u32; 32], i: usize, n: usize) -> u32
     requires { (n ≤ 32) × (i < 32) }
     ensures { Holds result n (clashes_in t.now i) }
 {
-    let row = t[i];
-    let mut k: u32 = 0;
-    let mut j: usize = 0;
-    while j < n {
-        let x = row.get(j);
-        let back = t[j];
-        let y = back.get(i);
-        let z = rows::both(x, y);
-        let o = rows::differ(i, j);
-        let yes = rows::both(o, z);
-        k = k.put_if(j, yes);
-        j += 1;
-    }
-    k
+    rows::set_where(n, |j| i != j && t[i].get(j) && t[j].get(i))
 }
 
 // The orderings of a set that touch an option of a set.
 pub fn touching(chart: &Chart, orderings: u64, options: u32) -> u64
     ensures { Holds result chart.now.ordering_count (touches_in chart.now orderings options) }
 {
-    let mut k: u64 = 0;
-    let mut u: usize = 0;
-    while u < chart.ordering_count {
-        let a = chart.firsts[u] as usize;
-        let b = chart.seconds[u] as usize;
-        let x = options.get(a);
-        let y = options.get(b);
-        let z = rows::either(x, y);
-        let o = orderings.get(u);
-        let yes = rows::both(o, z);
-        k = k.put_if(u, yes);
-        u += 1;
-    }
-    k
+    rows::set_where(chart.ordering_count, |u| {
+        let first = usize::from(chart.firsts[u]);
+        let second = usize::from(chart.seconds[u]);
+        orderings.get(u) && (options.get(first) || options.get(second))
+    })
 }
 
 // The weight of the open options of a set, and of the open orderings touching one of these.
 pub fn weight_with_orderings(chart: &Chart, h: &Half, set: u32) -> u32
     ensures { (result ≡ weight_with_orderings_in chart.now h.now (has set)) × (result ≤ largest_sum) }
 {
-    let x = rows::meet(h.open_options, set);
-    let y = touching(chart, h.open_orderings, x);
-    weigh_both(chart, x, y)
+    let options = rows::meet(h.open_options, set);
+    weigh_both(chart, options, touching(chart, h.open_orderings, options))
 }
 
 pub fn no_limit() -> Limit
@@ -80,7 +57,8 @@ pub fn no_limit() -> Limit
     }
 }
 
-// The limits of an option; none if it is decided.
+// The limits of an option; none if it is decided. What an option forgoes is worked out otherwise than what an ordering needs, so the
+// two are no instances of one function.
 pub fn option_limit(chart: &Chart, h: &Half, i: usize) -> Limit
     requires open_fits { OpenFits chart.now h.now × (i < chart.now.option_count) }
     ensures { result ≡ option_limit_in chart.now h.now i }
@@ -90,16 +68,12 @@ pub fn option_limit(chart: &Chart, h: &Half, i: usize) -> Limit
     }
     let clash = clash_row(&h.known, i, chart.option_count);
     let charged = weight_with_orderings(chart, h, clash);
-    let own = 0u32.put(i);
-    let forgone = weight_with_orderings(chart, h, own);
-    let gain = chart.weights[i] as u32;
-    let low = h.lower;
-    let high = h.upper;
+    let forgone = weight_with_orderings(chart, h, 0u32.put(i));
     Limit {
-        kept_lower: low + gain,
-        kept_upper: high - charged,
-        dropped_lower: low,
-        dropped_upper: high - forgone,
+        kept_lower: h.lower + u32::from(chart.weights[i]),
+        kept_upper: h.upper - charged,
+        dropped_lower: h.lower,
+        dropped_upper: h.upper - forgone,
     }
 }
 
@@ -111,23 +85,18 @@ pub fn ordering_limit(chart: &Chart, h: &Half, u: usize) -> Limit
     if !h.open_orderings.get(u) {
         return no_limit();
     }
-    let x = chart.firsts[u] as usize;
-    let y = chart.seconds[u] as usize;
-    let before = clash_row(&h.known, x, chart.option_count);
-    let after = clash_row(&h.known, y, chart.option_count);
-    let clash = rows::join(before, after);
-    let charged = weight_with_orderings(chart, h, clash);
-    let one = 0u32.put(x);
-    let two = one.put(y);
-    let ends = rows::meet(h.open_options, two);
-    let needed = weigh(ends as u64, &chart.weights, chart.option_count);
-    let gain = chart.ordering_weights[u] as u32;
-    let low = h.lower;
-    let high = h.upper;
+    let first = usize::from(chart.firsts[u]);
+    let second = usize::from(chart.seconds[u]);
+    let before = clash_row(&h.known, first, chart.option_count);
+    let after = clash_row(&h.known, second, chart.option_count);
+    let charged = weight_with_orderings(chart, h, rows::join(before, after));
+    let ends = rows::meet(h.open_options, 0u32.put(first).put(second));
+    let needed = weigh(u64::from(ends), &chart.weights, chart.option_count);
+    let gain = u32::from(chart.ordering_weights[u]);
     Limit {
-        kept_lower: low + gain + needed,
-        kept_upper: high - charged,
-        dropped_lower: low,
-        dropped_upper: high - gain,
+        kept_lower: h.lower + gain + needed,
+        kept_upper: h.upper - charged,
+        dropped_lower: h.lower,
+        dropped_upper: h.upper - gain,
     }
 }

@@ -19,36 +19,31 @@ pub struct Half {
     pub upper: u32,
 }
 
+// The items below n that are neither kept nor dropped, options or orderings.
+pub fn open_items<S: Slots>(kept: S, dropped: S, n: usize) -> S
+    requires { n ≤ S.width }
+    ensures { Holds (S.bits result) n (λ i. not (has (S.bits kept) i || has (S.bits dropped) i)) }
+{
+    rows::set_where(
+        n,
+        |i|
+            requires { i < S.width }
+        { !(kept.get(i) || dropped.get(i)) },
+    )
+}
+
 pub fn open_options(kept: u32, dropped: u32, n: usize) -> u32
     requires { n ≤ 32 }
     ensures { Holds result n (λ i. not (has kept i || has dropped i)) }
 {
-    let mut k: u32 = 0;
-    let mut i: usize = 0;
-    while i < n {
-        let x = kept.get(i);
-        let y = dropped.get(i);
-        let yes = rows::neither(x, y);
-        k = k.put_if(i, yes);
-        i += 1;
-    }
-    k
+    open_items(kept, dropped, n)
 }
 
 pub fn open_orderings(kept: u64, dropped: u64, m: usize) -> u64
     requires { m ≤ 64 }
     ensures { Holds result m (λ u. not (has kept u || has dropped u)) }
 {
-    let mut k: u64 = 0;
-    let mut u: usize = 0;
-    while u < m {
-        let x = kept.get(u);
-        let y = dropped.get(u);
-        let yes = rows::neither(x, y);
-        k = k.put_if(u, yes);
-        u += 1;
-    }
-    k
+    open_items(kept, dropped, m)
 }
 
 // The half-decided sheet that forced decisions leave.
@@ -57,19 +52,12 @@ pub fn half_decided(chart: &Chart, f: &Forced) -> Half
 {
     let n = chart.option_count;
     let m = chart.ordering_count;
-    let known = f.known;
-    let open = open_options(f.kept, f.dropped, n);
-    let open_o = open_orderings(f.kept_orderings, f.dropped_orderings, m);
-    let low = weigh_both(chart, f.kept, f.kept_orderings);
-    let x = weigh_all(&chart.weights, n);
-    let y = weigh_all(&chart.ordering_weights, m);
-    let gone = weigh_both(chart, f.dropped, f.dropped_orderings);
-    let high = x + y - gone;
+    let whole = weigh_all(&chart.weights, n) + weigh_all(&chart.ordering_weights, m);
     Half {
-        open_options: open,
-        open_orderings: open_o,
-        known: known,
-        lower: low,
-        upper: high,
+        open_options: open_items(f.kept, f.dropped, n),
+        open_orderings: open_items(f.kept_orderings, f.dropped_orderings, m),
+        known: f.known,
+        lower: weigh_both(chart, f.kept, f.kept_orderings),
+        upper: whole - weigh_both(chart, f.dropped, f.dropped_orderings),
     }
 }

@@ -65,19 +65,21 @@ module _ (chart : Chart) (h : Half) where
   unfolding option_limit_in
   decided_option_limit i t = rw t refl
 
-  pub open_ordering_limit : (u : ℕ) {before after clash one two ends needed a : ℕ} → has h.open_orderings u ≡ true
-      → Holds before n (clashes_in h.known (get_or firsts u 0)) → Holds after n (clashes_in h.known (get_or seconds u 0)) → clash ≡ joined before after
+  pub open_ordering_limit : (u : ℕ) {first second before after clash one two ends needed a : ℕ} → has h.open_orderings u ≡ true
+      → first ≡ get_or firsts u 0 → second ≡ get_or seconds u 0
+      → Holds before n (clashes_in h.known first) → Holds after n (clashes_in h.known second) → clash ≡ joined before after
       → a ≡ weight_with_orderings_in chart h (has clash)
-      → one ≡ with 0 (get_or firsts u 0) → two ≡ with one (get_or seconds u 0) → ends ≡ met h.open_options two → needed ≡ over n (weight_in ws) (has ends)
+      → one ≡ with 0 first → two ≡ with one second → ends ≡ met h.open_options two → needed ≡ over n (weight_in ws) (has ends)
       → record { kept_lower = h.lower + weight_in bs u + needed; kept_upper = h.upper - a; dropped_lower = h.lower; dropped_upper = h.upper - weight_in bs u } ≡ ordering_limit_in chart h u
   unfolding ordering_limit_in
-  open_ordering_limit u {before} {after} {clash} {one} {two} {ends} {needed} {a} t rb ra ec ea e1 e2 en ew = rw (
+  open_ordering_limit u {first} {second} {before} {after} {clash} {one} {two} {ends} {needed} {a} t ef es rb ra ec ea e1 e2 en ew = rw (
     t,
     ea,
-    same_weight_with_orderings chart h (has clash) (λ j. clashes_in h.known (get_or firsts u 0) j || clashes_in h.known (get_or seconds u 0) j) (λ j l. rw (ec, has_joined before after j, holds_at rb j l, holds_at ra j l) refl),
+    same_weight_with_orderings chart h (has clash) (λ j. clashes_in h.known (get_or firsts u 0) j || clashes_in h.known (get_or seconds u 0) j)
+        (λ j l. rw (ec, has_joined before after j, holds_at rb j l, holds_at ra j l, ef, es) refl),
     ew,
     over_same_tests n (weight_in ws) (has ends) (λ j. has h.open_options j && (eqb (get_or firsts u 0) j || eqb (get_or seconds u 0) j))
-        (λ j _. rw (en, has_met h.open_options two j, e2, has_with_slot one (get_or seconds u 0) j, e1, one_slot (get_or firsts u 0) j) refl),
+        (λ j _. rw (en, has_met h.open_options two j, e2, has_with_slot one second j, e1, one_slot first j, ef, es) refl),
   ) refl
 
   pub decided_ordering_limit : (u : ℕ) → has h.open_orderings u ≡ false → no_limit ≡ ordering_limit_in chart h u

@@ -15,4 +15,4 @@ pub overflow_sub-result-2 : goal.overflow_sub-result-2
 overflow_sub-result-2 c = subst (λ z. z ≤ c.args.h.now.upper) (sym c.weight_with_orderings-forgone.ensures.0) (charge_fits c.args.chart.now c.args.h.now c.requires.open_fits.0 _)
 
 pub returns : goal.returns
-returns c = open_option_limit c.args.chart.now c.args.h.now _ (sym c.get.ensures ∙ c.if-not-get.false) c.clash_row-clash.ensures c.put-own.ensures c.weight_with_orderings-charged.ensures.0 c.weight_with_orderings-forgone.ensures.0
+returns c = rw c.from.ensures (open_option_limit c.args.chart.now c.args.h.now _ (sym c.get.ensures ∙ c.if-not-get.false) c.clash_row-clash.ensures c.put.ensures c.weight_with_orderings-charged.ensures.0 c.weight_with_orderings-forgone.ensures.0)

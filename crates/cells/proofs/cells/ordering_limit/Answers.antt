@@ -13,7 +13,7 @@ pub overflow_sub-result : goal.overflow_sub-result
 overflow_sub-result c = subst (λ z. z ≤ c.args.h.now.upper) (sym c.weight_with_orderings-charged.ensures.0) (charge_fits c.args.chart.now c.args.h.now c.requires.open_fits.0 _)
 
 pub overflow_sub-result-2 : goal.overflow_sub-result-2
-overflow_sub-result-2 c = own_weight_fits c.args.chart.now c.args.h.now c.requires.open_fits.0 _ c.requires.open_fits.1 (subst T (sym (sym c.get.ensures ∙ c.if-not-get.false)) tt)
+overflow_sub-result-2 c = rw c.from-gain.ensures (own_weight_fits c.args.chart.now c.args.h.now c.requires.open_fits.0 _ c.requires.open_fits.1 (subst T (sym (sym c.get.ensures ∙ c.if-not-get.false)) tt))
 
 pub returns : goal.returns
-returns c = open_ordering_limit c.args.chart.now c.args.h.now _ (sym c.get.ensures ∙ c.if-not-get.false) c.clash_row-before.ensures c.clash_row-after.ensures c.join-clash.ensures c.weight_with_orderings-charged.ensures.0 c.put-one.ensures c.put-two.ensures c.meet-ends.ensures c.weigh-needed.ensures.0
+returns c = rw c.from-gain.ensures (open_ordering_limit c.args.chart.now c.args.h.now _ (sym c.get.ensures ∙ c.if-not-get.false) c.from-first.ensures c.from-second.ensures c.clash_row-before.ensures c.clash_row-after.ensures c.join.ensures c.weight_with_orderings-charged.ensures.0 c.put.ensures c.put-2.ensures c.meet-ends.ensures (rw c.from.ensures at c.weigh-needed.ensures.0))

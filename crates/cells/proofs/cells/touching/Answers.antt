@@ -1,11 +1,7 @@
--- Each turn puts one ordering in if it is of the set and touches an option of the set.
-use mathlib.Core.Path.{refl, ◌∙◌}
-use native.Mathlib.Omega.{arith}
-use Rattle.rows.specs.laws.Sets.{holds_none, holds_step}
+-- Each ordering is tested by itself: it is of the set and touches an option of the set.
+use Rattle.std.proofs.Common.{rules}
+use Rattle.rows.specs.laws.Sets.{holds_where}
 use Rattle.cells.proofs.cells.touching.Goals as goal
 
-pub loop-u-init : goal.loop-u-init
-loop-u-init c = (omega arith, holds_none _)
-
-pub loop-u-preserved : goal.loop-u-preserved
-loop-u-preserved c = (omega arith, holds_step _ c.loop-u.invariant.1 (c.both-yes.ensures ∙ rw (c.get-o.ensures, c.either-z.ensures, c.get-y.ensures, c.get-x.ensures) refl) c.put_if-k.ensures)
+pub returns : goal.returns
+returns c = holds_where _ (λ k l. let p = c.set_where.ensures.below k l in search rules) c.set_where.ensures.above

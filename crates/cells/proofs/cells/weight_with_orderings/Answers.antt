@@ -3,4 +3,4 @@ use Rattle.cells.proofs.laws.Cells.{charge_of_set}
 use Rattle.cells.proofs.cells.weight_with_orderings.Goals as goal
 
 pub returns : goal.returns
-returns c = (charge_of_set c.args.chart.now c.args.h.now c.args.set c.meet-x.ensures c.touching-y.ensures c.weigh_both.ensures.0, c.weigh_both.ensures.1)
+returns c = (charge_of_set c.args.chart.now c.args.h.now c.args.set c.meet-options.ensures c.touching.ensures c.weigh_both.ensures.0, c.weigh_both.ensures.1)

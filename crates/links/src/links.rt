@@ -7,29 +7,21 @@ use chart::Chart;
 use rows::Slots;
 
 // The option at which item x begins or ends: an option itself, an ordering's own in `ends`.
+#[tactic(auto, using(crate::specs::laws::Links::at_option, crate::specs::laws::Links::at_ordering))]
 pub fn option_at(ends: &[u8], n: usize, m: usize, x: u8) -> u8
     requires { AreSlots n m ends.now × Named n m x }
     ensures { OptionAt ends.now n x result }
 {
-    if x < 32 { x } else { ends[(x - 32) as usize] }
+    if x < 32 { x } else { ends[usize::from(x - 32)] }
 }
 
 // Item x is linked to item y: where x ends is known before where y begins, or they are two orderings that meet.
+#[tactic(auto, using(crate::specs::laws::Links::linked_known, crate::specs::laws::Links::linked_apart, crate::specs::laws::Links::linked_orderings))]
 pub fn is_linked(chart: &Chart, known: &[u32], x: u8, y: u8) -> bool
     requires { (chart.now.option_count ≤ length known.now) × Named chart.now.option_count chart.now.ordering_count x × Named chart.now.option_count chart.now.ordering_count y }
     ensures { result ≡ linked_in chart.now.option_count chart.now.ordering_count known.now chart.now.firsts chart.now.seconds x y }
 {
     let o = option_at(&chart.seconds, chart.option_count, chart.ordering_count, x);
     let i = option_at(&chart.firsts, chart.option_count, chart.ordering_count, y);
-    let row = known[o as usize];
-    if row.get(i as usize) {
-        return true;
-    }
-    if x < 32 {
-        return false;
-    }
-    if y < 32 {
-        return false;
-    }
-    o == i
+    known[usize::from(o)].get(usize::from(i)) || (x.min(y) >= 32 && o == i)
 }

@@ -9,13 +9,9 @@ pub fn ends_of(orderings: u64, ends: &[u8], n: usize, m: usize) -> u32
     requires { AreSlots n m ends.now × (m ≤ 64) }
     ensures { EndsOf orderings ends.now m result }
 {
-    let mut k: u32 = 0;
-    let mut u: usize = 0;
-    while u < m {
-        let yes = orderings.get(u);
-        let a = ends[u] as usize;
-        k = k.put_if(a, yes);
-        u += 1;
+    let mut options = 0u32;
+    for (u, end) in ends[..m].iter().enumerate() {
+        options = options.put_if(usize::from(*end), orderings.get(u));
     }
-    k
+    options
 }

@@ -13,15 +13,7 @@ pub fn is_free(row: u32, opens: u32, ends: u32, o: u8, x: u8) -> bool
     requires { o < 32 }
     ensures { OnlyIf result (FreeSide row opens ends o x) }
 {
-    let both = rows::join(opens, ends);
-    let common = rows::meet(row, both);
-    if common != 0 {
-        return false;
-    }
-    if x < 32 {
-        return true;
-    }
-    !ends.get(o as usize)
+    row & (opens | ends) == 0 && (x < 32 || !ends.get(usize::from(o)))
 }
 
 // An option stands by itself; an ordering only if both its options are decided.
@@ -29,12 +21,7 @@ pub fn has_closed_ends(opens: u32, a: u8, b: u8, x: u8) -> bool
     requires { (a < 32) × (b < 32) }
     ensures { OnlyIf result (ClosedEnds opens a b x) }
 {
-    if x < 32 {
-        return true;
-    }
-    let p = opens.get(a as usize);
-    let q = opens.get(b as usize);
-    rows::neither(p, q)
+    x < 32 || !(opens.get(usize::from(a)) || opens.get(usize::from(b)))
 }
 
 // Item x is loose, if it is open. `after` is `known` transposed; `begins` and `ends` are where open orderings begin and end.
@@ -52,14 +39,7 @@ pub fn is_loose(
 {
     let a = links::option_at(&chart.firsts, chart.option_count, chart.ordering_count, x);
     let b = links::option_at(&chart.seconds, chart.option_count, chart.ordering_count, x);
-    let alone = has_closed_ends(opens, a, b, x);
-    if !alone {
-        return false;
-    }
-    let later = known[b as usize];
-    if is_free(later, opens, begins, b, x) {
-        return true;
-    }
-    let earlier = after[a as usize];
-    is_free(earlier, opens, ends, a, x)
+    has_closed_ends(opens, a, b, x)
+        && (is_free(known[usize::from(b)], opens, begins, b, x)
+            || is_free(after[usize::from(a)], opens, ends, a, x))
 }

@@ -1,7 +1,7 @@
 -- Where items begin and end by their numbers, and what links them.
-use Rattle.std.specs.Prelude.{◌≡◌, Bool, true, false, ◌||◌, List, ℕ, ◌-◌, ◌≤◌, ◌<◌, eqb}
+use Rattle.std.specs.Prelude.{◌≡◌, Bool, true, false, ◌||◌, List, ℕ, ◌-◌, ◌≤◌, ◌<◌, eqb, ltb}
 use Rattle.std.proofs.Math.Path.{refl, sym, ap}
-use Rattle.std.proofs.Common.{◌∙◌}
+use Rattle.std.proofs.Common.{◌∙◌, ltb-true, ltb-false}
 use Rattle.std.proofs.Math.ListN.{get_or}
 use Rattle.rules.specs.Subscription.{Subscription}
 use Rattle.rules.specs.laws.search.Items.{Item, option, ordering, begins_at, ends_at, meets, linked}
@@ -57,6 +57,14 @@ module _ (known firsts seconds : List ℕ) (n m x y o i : ℕ) (e : OptionAt sec
 
   pub linked_to_option : cell known o i ≡ false → 32 ≤ x → y < 32 → false ≡ Linked
   linked_to_option h l k = sym (linked_is ∙ ap (λ z. z || meets v (numbered x) (numbered y)) h ∙ ap (λ z. meets v z (numbered y)) (numbered_ordering x l) ∙ ap (λ z. meets v (ordering (x - 32)) z) (numbered_option y k))
+
+  pub linked_apart : cell known o i ≡ false → (32 ≤ x → 32 ≤ y → ⊥) → false ≡ Linked
+  linked_apart h apart = go (ltb x 32) refl (ltb y 32) refl
+    where
+      go : (p : Bool) → ltb x 32 ≡ p → (q : Bool) → ltb y 32 ≡ q → false ≡ Linked
+      go true e q f = linked_from_option h (ltb-true x 32 e)
+      go false e true f = linked_to_option h (ltb-false x 32 e) (ltb-true y 32 f)
+      go false e false f = absurd (apart (ltb-false x 32 e) (ltb-false y 32 f))
 
   -- two orderings
   pub linked_orderings : cell known o i ≡ false → 32 ≤ x → 32 ≤ y → eqb o i ≡ Linked

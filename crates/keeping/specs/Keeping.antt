@@ -1,5 +1,5 @@
 -- Open items that are kept beside the forced ones.
-use Rattle.std.specs.Prelude.{◌≡◌, Bool, true, false, ◌||◌, List, ◌⊎◌, ℕ, ◌+◌, ◌<◌, T}
+use Rattle.std.specs.Prelude.{◌≡◌, ◌≢◌, List, ◌⊎◌, ℕ, ◌+◌, ◌<◌, T}
 use Rattle.chart.specs.declared.chart.Chart.{Chart}
 use Rattle.rules.specs.laws.search.Residual.{held}
 use Rattle.rows.specs.Bits.{has}
@@ -9,7 +9,6 @@ use Rattle.residual.specs.declared.starting.Left.{Left}
 use Rattle.half.specs.declared.opened.Half.{Half}
 use Rattle.loose.specs.Loose.{EndsOf, LooseBy}
 use Rattle.given.specs.declared.sets.Given.{Given}
-use Rattle.keeping.specs.declared.keeping.More.{More}
 
 -- Item x may be kept: its consequences hold more than can be spared, or it is loose.
 pub data MayKeep (chart : Chart) (known after : List ℕ) (opens begins ends : ℕ) (left : Left) (spare x : ℕ) : Type 0 where
@@ -17,22 +16,19 @@ pub data MayKeep (chart : Chart) (known after : List ℕ) (opens begins ends : �
   loose : LooseBy known after chart.firsts chart.seconds chart.option_count opens begins ends x → MayKeep chart known after opens begins ends left spare x
 
 -- A set with more in it: only slots below n that are open and of which P holds.
-pub record AddedTo (before after opens n : ℕ) (more : Bool) (P : ℕ → Type 0) : Type 0 where
+pub record AddedTo (before after opens n : ℕ) (P : ℕ → Type 0) : Type 0 where
   pub keeps : (j : ℕ) → T (has before j) → T (has after j)
   pub only : (j : ℕ) → T (has after j) → T (has before j) ⊎ ((j < n) × T (has opens j) × P j)
-  pub one : more ≡ true → (j : ℕ) × (j < n) × T (has opens j) × T (has after j)
-  pub none : more ≡ false → after ≡ before
+  pub one : after ≢ before → (j : ℕ) × (j < n) × T (has opens j) × T (has after j)
 
--- Items that may be kept are kept too; nothing else moves.
-pub record KeptMore (chart : Chart) (h : Half) (after : List ℕ) (left : Left) (spare : ℕ) (g : Given) (k : More) : Type 0 where
+-- Items that may be kept are kept too, at least one; nothing else moves.
+pub record KeptMore (chart : Chart) (h : Half) (after : List ℕ) (left : Left) (spare : ℕ) (g k : Given) : Type 0 where
   pub begins : ℕ
   pub ends : ℕ
   pub begin : EndsOf h.open_orderings chart.firsts chart.ordering_count begins
   pub end : EndsOf h.open_orderings chart.seconds chart.ordering_count ends
-  pub more_options : Bool
-  pub more_orderings : Bool
-  pub option : AddedTo g.kept k.given.kept h.open_options chart.option_count more_options (MayKeep chart h.known after h.open_options begins ends left spare)
-  pub ordering : AddedTo g.kept_orderings k.given.kept_orderings h.open_orderings chart.ordering_count more_orderings (λ u. MayKeep chart h.known after h.open_options begins ends left spare (32 + u))
-  pub dropped : k.given.dropped ≡ g.dropped
-  pub dropped_orderings : k.given.dropped_orderings ≡ g.dropped_orderings
-  pub more : k.more ≡ (more_options || more_orderings)
+  pub option : AddedTo g.kept k.kept h.open_options chart.option_count (MayKeep chart h.known after h.open_options begins ends left spare)
+  pub ordering : AddedTo g.kept_orderings k.kept_orderings h.open_orderings chart.ordering_count (λ u. MayKeep chart h.known after h.open_options begins ends left spare (32 + u))
+  pub dropped : k.dropped ≡ g.dropped
+  pub dropped_orderings : k.dropped_orderings ≡ g.dropped_orderings
+  pub more : (k.kept ≢ g.kept) ⊎ (k.kept_orderings ≢ g.kept_orderings)

@@ -17,28 +17,38 @@ pub fn nothing_given() -> Given
     }
 }
 
+#[tactic(auto, unfolding(crate::specs::Sets::with_item_kept))]
 pub fn keep_item(g: Given, x: usize) -> Given
     requires { x < 96 }
     ensures { result ≡ with_item_kept g x }
 {
-    let mut r = g;
     if x < 32 {
-        r.kept = g.kept.put(x);
+        Given {
+            kept: g.kept.put(x),
+            ..g
+        }
     } else {
-        r.kept_orderings = g.kept_orderings.put(x - 32);
+        Given {
+            kept_orderings: g.kept_orderings.put(x - 32),
+            ..g
+        }
     }
-    r
 }
 
+#[tactic(auto, unfolding(crate::specs::Sets::with_item_dropped))]
 pub fn drop_item(g: Given, x: usize) -> Given
     requires { x < 96 }
     ensures { result ≡ with_item_dropped g x }
 {
-    let mut r = g;
     if x < 32 {
-        r.dropped = g.dropped.put(x);
+        Given {
+            dropped: g.dropped.put(x),
+            ..g
+        }
     } else {
-        r.dropped_orderings = g.dropped_orderings.put(x - 32);
+        Given {
+            dropped_orderings: g.dropped_orderings.put(x - 32),
+            ..g
+        }
     }
-    r
 }

@@ -5,4 +5,4 @@ mod items;
 mod keeping;
 
 pub use items::{drop_item, keep_item, nothing_given};
-pub use keeping::{More, keep_more};
+pub use keeping::keep_more;

@@ -1,62 +1,44 @@
 -- A set that grows slot by slot.
-use Rattle.std.specs.Prelude.{◌≡◌, refl, Bool, true, false, not, ◌||◌, ◌⊎◌, ℕ, ◌+◌, ◌<◌, eqb}
-use Rattle.std.proofs.Common.{sym, ◌∙◌, eqb→eq}
-use Rattle.std.proofs.Math.Path.{subst}
-use Rattle.std.proofs.Math.Logic.{inl, inr}
-use native.Mathlib.Omega.{arith}
-use Rattle.std.proofs.Math.Dec.{T, eqb_refl}
+use Rattle.std.specs.Prelude.{◌≡◌, ◌⊎◌, ℕ, ◌+◌, ◌<◌, true, T, eqb}
+use Rattle.std.proofs.Common.{refl, sym, subst, eqb→eq, inl, inr, arith}
+use Rattle.std.proofs.Math.Dec.{eqb_refl}
 use Rattle.rules.specs.laws.Tests.{or_l, or_r, or_e}
-use Rattle.rows.specs.Bits.{has, with_if}
+use Rattle.rows.specs.Bits.{has, with}
 use Rattle.rows.specs.laws.Bits.{has_with_slot}
-use Rattle.links.specs.Links.{OnlyIf}
 use Rattle.keeping.specs.Keeping.{AddedTo}
 
--- A test that was not turned away was passed.
-pub opened : {b c : Bool} → b ≡ c → not b ≡ false → T c
-opened {b} {c} e q = subst T e (go b q)
-  where
-    go : (x : Bool) → not x ≡ false → T x
-    go true w = tt
-    go false w = absurd (subst T w tt)
-
-module _ (before opens : ℕ) (P : ℕ → Type 0) where
-  pub added_none : AddedTo before before opens 0 false P
-  added_none = record { keeps = λ j t. t; only = λ j t. inl t; one = λ e. absurd (subst T (sym e) tt); none = λ _. refl }
+module _ {before opens : ℕ} {P : ℕ → Type 0} where
+  -- a slot that was passed over
+  pub added_passed : {i set set' : ℕ} → AddedTo before set opens i P → set' ≡ set → AddedTo before set' opens (i + 1) P
+  added_passed {i} {set} {set'} w e = subst (λ z. AddedTo before z opens (i + 1) P) (sym e) (record {
+    keeps = w.keeps;
+    only = λ j t. further (w.only j t);
+    one = λ d. let (j, l, t, a) = w.one d in (j, omega arith, t, a);
+  })
+    where
+      further : {j : ℕ} → T (has before j) ⊎ ((j < i) × T (has opens j) × P j) → T (has before j) ⊎ ((j < i + 1) × T (has opens j) × P j)
+      further (inl t) = inl t
+      further (inr (l, t, p)) = inr (omega arith, t, p)
 
   -- one slot more
-  pub added_step : {i set set' : ℕ} {more more' yes : Bool} → AddedTo before set opens i more P → OnlyIf yes (T (has opens i) × P i) → set' ≡ with_if set i yes → more' ≡ (more || yes) → AddedTo before set' opens (i + 1) more' P
-  unfolding with_if
-  added_step {i} {set} {set'} {more} {more'} {yes} w o e f = subst (λ z. AddedTo before set' opens (i + 1) z P) (sym f) (subst (λ z. AddedTo before z opens (i + 1) (more || yes) P) (sym e) (go yes o))
+  pub added_put : {i set set' : ℕ} → AddedTo before set opens i P → has opens i ≡ true → P i → set' ≡ with set i → AddedTo before set' opens (i + 1) P
+  added_put {i} {set} {set'} w o p e = subst (λ z. AddedTo before z opens (i + 1) P) (sym e) (record {
+    keeps = λ j t. subst T (sym (has_with_slot set i j)) (or_l (has set j) _ (w.keeps j t));
+    only = λ j t. at j (or_e (has set j) _ (subst T (has_with_slot set i j) t));
+    one = λ _. (i, omega arith, here, subst T (sym (has_with_slot set i i)) (or_r (has set i) _ (eqb_refl i)));
+  })
     where
-      was : (j : ℕ) → T (has before j) ⊎ ((j < i) × T (has opens j) × P j) → T (has before j) ⊎ ((j < i + 1) × T (has opens j) × P j)
-      was j (inl t) = inl t
-      was j (inr (l, t, p)) = inr (omega arith, t, p)
+      here : T (has opens i)
+      here = subst T (sym o) tt
 
-      or_false : (a : Bool) → (a || false) ≡ a
-      or_false true = refl
-      or_false false = refl
+      at : (j : ℕ) → T (has set j) ⊎ T (eqb i j) → T (has before j) ⊎ ((j < i + 1) × T (has opens j) × P j)
+      at j (inl t) = (added_passed w refl).only j t
+      at j (inr q) = let z = eqb→eq i j q in inr (omega arith, subst (λ k. T (has opens k)) z here, subst P z p)
 
-      or_true : (a : Bool) → (a || true) ≡ true
-      or_true true = refl
-      or_true false = refl
-
-      go : (y : Bool) → OnlyIf y (T (has opens i) × P i) → AddedTo before (with_if set i y) opens (i + 1) (more || y) P
-      go false o = record {
-        keeps = w.keeps;
-        only = λ j t. was j (w.only j t);
-        one = λ q. let (j, l, t, a) = w.one (sym (or_false more) ∙ q) in (j, omega arith, t, a);
-        none = λ q. w.none (sym (or_false more) ∙ q);
-      }
-      go true o = let (h, p) = o.told refl in record {
-        keeps = λ j t. subst T (sym (has_with_slot set i j)) (or_l (has set j) _ (w.keeps j t));
-        only = λ j t. at j (or_e (has set j) _ (subst T (has_with_slot set i j) t));
-        one = λ _. (i, omega arith, h, subst T (sym (has_with_slot set i i)) (or_r (has set i) _ (eqb_refl i)));
-        none = λ q. absurd (subst T (sym (or_true more) ∙ q) tt);
-      }
-        where
-          at : (j : ℕ) → T (has set j) ⊎ T (eqb i j) → T (has before j) ⊎ ((j < i + 1) × T (has opens j) × P j)
-          at j (inl t) = was j (w.only j t)
-          at j (inr q) = let z = eqb→eq i j q in let (h, p) = o.told refl in inr (omega arith, subst (λ k. T (has opens k)) z h, subst P z p)
-
-  pub added_end : {i n set : ℕ} {more : Bool} → AddedTo before set opens i more P → i ≡ n → AddedTo before set opens n more P
-  added_end {i} {n} {set} {more} w e = subst (λ z. AddedTo before set opens z more P) e w
+-- what holds of the slots that came may be said in other words
+pub added_weaker : {before after opens n : ℕ} {P Q : ℕ → Type 0} → ((j : ℕ) → j < n → P j → Q j) → AddedTo before after opens n P → AddedTo before after opens n Q
+added_weaker {before} {after} {opens} {n} {P} {Q} f w = record { keeps = w.keeps; only = λ j t. said (w.only j t); one = w.one }
+  where
+    said : {j : ℕ} → T (has before j) ⊎ ((j < n) × T (has opens j) × P j) → T (has before j) ⊎ ((j < n) × T (has opens j) × Q j)
+    said (inl t) = inl t
+    said {j} (inr (l, t, p)) = inr (l, t, f j l p)

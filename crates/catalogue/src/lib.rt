@@ -11,29 +11,23 @@ pub fn put_pair(t: [u32; 32], i: usize, j: usize, n: usize) -> [u32; 32]
     requires { n ≤ 32 }
     ensures { WithPair n t i j result }
 {
-    if n <= i {
-        return t;
+    let mut table = t;
+    if i < n && j < n {
+        table[i] = table[i].put(j);
     }
-    if n <= j {
-        return t;
-    }
-    let mut u = t;
-    let row = t[i];
-    let more = row.put(j);
-    u[i] = more;
-    u
+    table
 }
 
-// What one line says: slot i before slot j, and after an X (letter 88) j before i too.
+// What one line says: slot i before slot j, and after an X j before i too.
 pub fn put_line(t: [u32; 32], letter: u8, i: usize, j: usize, n: usize) -> [u32; 32]
     requires { n ≤ 32 }
     ensures { WithLine n t (line_of letter i j) result }
 {
-    let u = put_pair(t, i, j, n);
-    if letter == 88 {
-        return put_pair(u, j, i, n);
+    let said = put_pair(t, i, j, n);
+    if letter == b'X' {
+        return put_pair(said, j, i, n);
     }
-    u
+    said
 }
 
 // What all lines say, by a table of slots; options that nobody subscribed are passed over.
@@ -49,17 +43,12 @@ pub fn catalogue_rows<'a>(
     requires lines_in_bounds { (lines ≤ length letters.now) × (lines ≤ length befores.now) × (lines ≤ length afters.now) }
     ensures { SaysBy n table.now letters.now befores.now afters.now lines result }
 {
-    let mut t: [u32; 32] = [0; 32];
-    let mut k: usize = 0;
-    while k < lines {
-        let letter = letters[k];
-        let x = befores[k];
-        let y = afters[k];
-        let i = table[x as usize];
-        let j = table[y as usize];
-        let u = put_line(t, letter, i as usize, j as usize, n);
-        t = u;
-        k += 1;
+    let mut rows = [0; 32];
+    for k in 0..lines {
+        let i = usize::from(table[usize::from(befores[k])]);
+        let j = usize::from(table[usize::from(afters[k])]);
+        let said = put_line(rows, letters[k], i, j, n);
+        rows = said;
     }
-    t
+    rows
 }

@@ -1,16 +1,14 @@
 -- What a line's section and a passed judgement say, and one line of `read_lines`.
-use Prim.Native.Nat.{ℕ, zero, suc, ◌+◌, ◌-◌, ◌≤◌, ◌<◌}
-use mathlib.Core.Path.{◌≡◌, refl, ap, ◌∙◌}
+use Prim.Native.Nat.{ℕ, suc, ◌+◌, ◌-◌, ◌≤◌, ◌<◌}
+use mathlib.Core.Path.{◌≡◌, refl, ◌∙◌, sym}
 use mathlib.Core.Bool.{Bool, true, false, cond}
 use mathlib.Core.List.{List}
 use native.Mathlib.Omega.{arith}
 use lib.Dec.{ltb}
 use lib.ListN.{length, take, drop, get_or, length-drop}
-use lib.Seq.{drop-drop, get_or-drop, take_all}
+use lib.Seq.{take_all}
 use borrow.Author.Tests.{ltb-true, ltb-false}
 use Rattle.shape.specs.Number.{numbers_of}
-use Rattle.sheet.specs.Judge.{judge_catalogue_line, judge_option, judge_ordering}
-use Rattle.sheet.proofs.JudgeLaws.{catalogue_obeys, option_obeys, ordering_obeys}
 use Rattle.shape.specs.Line.{line_length}
 use Rattle.lines.specs.Lines.{read_lines, judged_line, after_judged}
 use Rattle.lines.specs.Result.{answered, refused_at}
@@ -53,59 +51,34 @@ in_orderings f u n e = go (ltb n f) (ltb n u) refl refl e
     go false true p q e = absurd (zero_one (cc))
     go false false p q e = (ltb-false n f p, ltb-false n u q)
 
--- the numbers of a line that was passed fit the record's arrays
-pub catalogue_fits : (h : Numbers) → judge_catalogue_line h ≡ Fine → (h.first ≤ 250) × (h.second ≤ 250)
-catalogue_fits h e =
-    let g = catalogue_obeys h e in
-    (g.0.1, g.1.0.1)
-
-pub option_fits : (h : Numbers) (l : List ℕ) → judge_option h l ≡ Fine → (h.first ≤ 250) × (h.second ≤ 9999)
-option_fits h l e =
-    let g = option_obeys h l e in
-    (g.0.1, g.1.0)
-
-pub ordering_fits : (h : Numbers) (l m n : List ℕ) → judge_ordering h l m n ≡ Fine → (h.first ≤ 250) × ((h.second ≤ 250) × (h.third ≤ 9999))
-ordering_fits h l m n e =
-    let g = ordering_obeys h l m n e in
-    (g.0.1, (g.1.0.1, g.1.1.0))
-
--- one line
-pub lines_step : (f u : ℕ) (a : Answer) (stop n at : ℕ) (text : List ℕ) (s : Sheet) → n < stop
-    → read_lines f u a (stop - n) n (drop at text) s
-    ≡ after_judged (judged_line f u (section_of f u n) n (numbers_of (drop at text)) s) n
-    (read_lines f u a (stop - (n + 1)) (n + 1) (drop (at + line_length (drop at text)) text) (stored_line f u (section_of f u n) n (get_or text at 0) (numbers_of (drop at text)) s))
-unfolding read_lines
-lines_step f u a stop n at text s h =
-    let e : stop - n ≡ suc (stop - (n + 1)) = omega arith in
-    let d : drop (line_length (drop at text)) (drop at text) ≡ drop (at + line_length (drop at text)) text = drop-drop (line_length (drop at text)) at text in
-    let z : at + 0 ≡ at = omega arith in
-    let g : get_or (drop at text) 0 0 ≡ get_or text at 0 = get_or-drop at text 0 0 ∙ ap (λ (k : ℕ). get_or text k 0) z in
-    rw (e, d, g)
-
-pub lines_end : (f u : ℕ) (a : Answer) (k n : ℕ) (l : List ℕ) (s : Sheet) → k ≤ 0 → read_lines f u a k n l s ≡ answered a s
-unfolding read_lines
-lines_end f u a zero n l s h = refl
-lines_end f u a (suc k) n l s h = absurd (omega arith)
-
-pub turn : (f u : ℕ) (a : Answer) (stop n at : ℕ) (text : List ℕ) (s : Sheet) (h : Numbers) (sec : Section) (v : Judged) (o : Reading) → n < stop
-    → h ≡ numbers_of (drop at text) → sec ≡ section_of f u n → v ≡ judged_line f u sec n h s → o ≡ read_lines f u a (stop - n) n (drop at text) s
-    → o ≡ after_judged v n (read_lines f u a (stop - (n + 1)) (n + 1) (drop (at + line_length (drop at text)) text) (stored_line f u sec n (get_or text at 0) h s))
-turn f u a stop n at text s h sec v o lt eh es ev e = e ∙ lines_step f u a stop n at text s lt ∙ rw (ev, es, eh)
-
-pub broken : (v : Judged) (k : Refusal) (col n : ℕ) (o o' r : Reading) → o ≡ after_judged v n o' → v ≡ Broken k col → r ≡ refused_at k n col → r ≡ o
-broken v k col n o o' r p q e = e ∙ rw (p, q)
-
-pub fine : (f u : ℕ) (a : Answer) (stop n at at' c : ℕ) (text : List ℕ) (s s' : Sheet) (h : Numbers) (sec : Section) (v : Judged) (o : Reading)
-    → o ≡ after_judged v n (read_lines f u a (stop - (n + 1)) (n + 1) (drop (at + line_length (drop at text)) text) (stored_line f u sec n (get_or text at 0) h s))
-    → v ≡ Fine → c ≡ get_or text at 0 → s' ≡ stored_line f u sec n c h s → at' ≡ at + line_length (drop at text)
-    → o ≡ read_lines f u a (stop - (n + 1)) (n + 1) (drop at' text) s'
-fine f u a stop n at at' c text s s' h sec v o p q ec es ea = rw (p, q, ea, es, ec)
-
-pub ended : (f u : ℕ) (a : Answer) (k n : ℕ) (l : List ℕ) (s : Sheet) (o : Reading) → k ≤ 0 → o ≡ read_lines f u a k n l s → o ≡ answered a s
-ended f u a k n l s o h e = e ∙ lines_end f u a k n l s h
-
 -- a part of a list that goes to its end
 pub to_end : (at : ℕ) (l : List ℕ) → take (length l - at) (drop at l) ≡ drop at l
 to_end at l =
     let e : length (drop at l) ≤ length l - at = rw (length-drop at l) (omega arith) in
     take_all (length l - at) (drop at l) e
+
+-- one line
+lines_step : (f u : ℕ) (a : Answer) (stop n : ℕ) (l : List ℕ) (s : Sheet) → n < stop
+    → read_lines f u a (stop - n) n l s
+    ≡ after_judged (judged_line f u (section_of f u n) n (numbers_of l) s) n
+    (read_lines f u a (stop - (n + 1)) (n + 1) (drop (line_length l) l) (stored_line f u (section_of f u n) n (get_or l 0 0) (numbers_of l) s))
+unfolding read_lines
+lines_step f u a stop n l s h =
+    let e : stop - n ≡ suc (stop - (n + 1)) = omega arith in
+    rw e
+
+pub lines_end : (f u : ℕ) (a : Answer) (k n : ℕ) (l : List ℕ) (s : Sheet) → k ≡ 0 → read_lines f u a k n l s ≡ answered a s
+unfolding read_lines
+lines_end f u a k n l s e = rw e
+
+module _ (f u : ℕ) (a : Answer) (stop n : ℕ) (l : List ℕ) (s : Sheet) {h : Numbers} {sec : Section} {v : Judged} {o : Reading} (below : n < stop)
+    (numbers : h ≡ numbers_of l) (section : sec ≡ section_of f u n) (judged : v ≡ judged_line f u sec n h s) (so_far : o ≡ read_lines f u a (stop - n) n l s) where
+  turn : o ≡ after_judged v n (read_lines f u a (stop - (n + 1)) (n + 1) (drop (line_length l) l) (stored_line f u sec n (get_or l 0 0) h s))
+  turn = so_far ∙ lines_step f u a stop n l s below ∙ rw (judged, section, numbers)
+
+  pub broken : {why : Refusal} {column : ℕ} {r : Reading} → v ≡ Broken why column → r ≡ refused_at why n column → r ≡ o
+  broken is refused = refused ∙ sym (turn ∙ rw is)
+
+  pub fine : {c k : ℕ} {s' : Sheet} → v ≡ Fine → c ≡ get_or l 0 0 → s' ≡ stored_line f u sec n c h s → k ≡ line_length l
+      → o ≡ read_lines f u a (stop - (n + 1)) (n + 1) (take (length l - k) (drop k l)) s'
+  fine {c} {k} is first stored long = turn ∙ rw (is, to_end k l, long, stored, first)

@@ -6,4 +6,4 @@ mod lines;
 mod result;
 
 pub use lines::read_lines;
-pub use result::{Reading, refused};
+pub use result::{Reading, refused, refused_at};

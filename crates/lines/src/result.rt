@@ -1,6 +1,6 @@
 // What the reader answers.
 ghost use Rattle.std.specs.Prelude.{◌≡◌};
-ghost use Rattle.lines.specs.Result.{refused, answered};
+ghost use Rattle.lines.specs.Result.{refused, refused_at, answered};
 
 use shape::Place;
 use sheet::{Answer, Refusal, Sheet};
@@ -21,6 +21,13 @@ pub fn refused(place: Place, why: Refusal) -> Reading
         answer: Answer::Refused { place, why },
         sheet,
     }
+}
+
+// A refusal at a line and a column.
+pub fn refused_at(why: Refusal, line: usize, column: usize) -> Reading
+    ensures { result ≡ refused_at why line column }
+{
+    refused(Place { line, column }, why)
 }
 
 // The record that was read, if the answer lets it pass.

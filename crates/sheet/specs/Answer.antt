@@ -1,5 +1,7 @@
--- The requirements' number for each refusal.
+-- The requirements' number for each refusal, and a refusal at no place.
 use Rattle.std.specs.Prelude.{ℕ}
+use Rattle.sheet.specs.declared.answer.Answer.{Answer}
+use Rattle.sheet.specs.declared.answer.Answer.TheVariants.{Refused}
 use Rattle.sheet.specs.declared.answer.Refusal.{Refusal}
 use Rattle.sheet.specs.declared.answer.Refusal.TheVariants.{SheetTooLong, NoTrailer, BadTrailer, Misshapen, OutsideRange, TooManyLines, SubscribedTwice, OneOptionTwice, NotSubscribed, SamePairAgain, ToleranceTooLarge, NotRecorded, OutputTooShort, WrongDecisions, NotConsistent}
 
@@ -20,3 +22,7 @@ number_of NotRecorded = 12
 number_of OutputTooShort = 13
 number_of WrongDecisions = 14
 number_of NotConsistent = 15
+
+-- of the call as a whole: line 0, column 0
+abbrev pub refused : Refusal → Answer
+refused why = Refused (record { line = 0; column = 0 }) why

@@ -10,7 +10,7 @@ pub enum Decision {
 }
 
 // One entry for each slot, by the order of the F lines and of the U lines.
-#[derive(Clone, Copy)]
+#[derive(Clone, Copy, Debug, PartialEq, Eq)]
 pub struct Decisions {
     pub options: [Decision; 32],
     pub orderings: [Decision; 64],

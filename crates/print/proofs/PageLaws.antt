@@ -66,6 +66,14 @@ room_remains {before} {page} {whole} {left} room x = record {
       omega arith;
 }
 
+-- ---- a page with nothing on it, made of a buffer
+module _ {page : Page} {out text : List ℕ} (at : page.at ≡ 0) (bytes : page.bytes.now ≡ out) where
+  pub room_on_new : length text ≤ length out → Room page text
+  room_on_new h = record { fits = let e = ap length bytes in omega arith }
+
+  pub printed_on_new : {after : Page} → Printed page after text → (after.bytes.now ≡ put 0 text out) × (after.at ≡ length text)
+  printed_on_new x = (x.shows ∙ ap₂ (λ (k : ℕ) (b : List ℕ). put k text b) at bytes, let e = x.ends in omega arith)
+
 -- ---- the numbers of a line, from one of them on
 pub fields_first : (i : ℕ) (numbers : List ℕ) → i < length numbers
     → fields_text (drop i numbers) ≡ (32 ∷ []) ++ (decimal (get_or numbers i 0) ++ fields_text (drop (i + 1) numbers))

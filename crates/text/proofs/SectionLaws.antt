@@ -8,9 +8,6 @@ use Rattle.shape.specs.LineText.{decimal, line_text}
 use Rattle.sheet.specs.Text.{catalogue_text, options_text, orderings_text}
 use Rattle.shape.proofs.LengthLaws.{two_length, three_length}
 
-pub less_none : (n : ℕ) → n - 0 ≡ n
-less_none n = omega arith
-
 pub first_length : (x y l : List ℕ) → l ≡ x ++ y → length l ≡ length x + length y
 first_length x y l e = ap length e ∙ length-append x y
 

@@ -1,76 +1,50 @@
-// The sections of a text, printed one after the other into a lent buffer, and the whole.
-ghost use Rattle.std.specs.Prelude.{◌≡◌, ◌≤◌, ◌+◌, length};
+// The sections of a text, printed one after the other on a page, and the whole.
+ghost use Rattle.std.specs.Prelude.{◌≡◌, ◌≤◌, length};
 ghost use Rattle.sheet.specs.Text.{catalogue_text, options_text, orderings_text, text_of};
 ghost use Rattle.print.specs.Put.{put};
+ghost use Rattle.print.specs.Page.{Room, Printed};
 
-use print::{put_three, put_two};
+use print::Page;
 use sheet::Sheet;
 
-// Prints the first n catalogue lines from `at` on, and gives the position after them.
-fn put_catalogue(
-    out: &mut [u8],
-    at: usize,
-    letters: &[u8],
-    befores: &[u8],
-    afters: &[u8],
-    n: usize,
-) -> usize
-    requires enough_entries { (n ≤ length letters.now) × ((n ≤ length befores.now) × (n ≤ length afters.now)) }
-    requires room { at + length (catalogue_text n 0 letters.now befores.now afters.now) ≤ length out.old }
-    ensures { (out.new ≡ put at (catalogue_text n 0 letters.now befores.now afters.now) out.old) × (result ≡ at + length (catalogue_text n 0 letters.now befores.now afters.now)) }
+// Prints the catalogue lines.
+fn put_catalogue(page: &mut Page, s: &Sheet)
+    requires few { s.now.catalogue_lines ≤ 512 }
+    requires room { Room page.old (catalogue_text s.now.catalogue_lines 0 s.now.letters s.now.befores s.now.afters) }
+    ensures { Printed page.old page.new (catalogue_text s.now.catalogue_lines 0 s.now.letters s.now.befores s.now.afters) }
 {
-    let mut i: usize = 0;
-    let mut p = at;
-    while i < n {
-        let c = letters[i];
-        let a = befores[i] as usize;
-        let b = afters[i] as usize;
-        p = put_two(out, p, c, a, b);
-        i += 1;
+    for i in 0..s.catalogue_lines {
+        let before = usize::from(s.befores[i]);
+        let after = usize::from(s.afters[i]);
+        page.put_line(s.letters[i], &[before, after]);
     }
-    p
 }
 
-// Prints the first n F lines.
-fn put_options(out: &mut [u8], at: usize, numbers: &[u8], weights: &[u16], n: usize) -> usize
-    requires enough_entries { (n ≤ length numbers.now) × (n ≤ length weights.now) }
-    requires room { at + length (options_text n 0 numbers.now weights.now) ≤ length out.old }
-    ensures { (out.new ≡ put at (options_text n 0 numbers.now weights.now) out.old) × (result ≡ at + length (options_text n 0 numbers.now weights.now)) }
+// Prints the F lines.
+fn put_options(page: &mut Page, s: &Sheet)
+    requires few { s.now.option_count ≤ 32 }
+    requires room { Room page.old (options_text s.now.option_count 0 s.now.numbers s.now.weights) }
+    ensures { Printed page.old page.new (options_text s.now.option_count 0 s.now.numbers s.now.weights) }
 {
-    let mut i: usize = 0;
-    let mut p = at;
-    while i < n {
-        let a = numbers[i] as usize;
-        let b = weights[i] as usize;
-        p = put_two(out, p, 70, a, b);
-        i += 1;
+    for i in 0..s.option_count {
+        let number = usize::from(s.numbers[i]);
+        let weight = usize::from(s.weights[i]);
+        page.put_line(b'F', &[number, weight]);
     }
-    p
 }
 
-// Prints the first n U lines.
-fn put_orderings(
-    out: &mut [u8],
-    at: usize,
-    firsts: &[u8],
-    seconds: &[u8],
-    weights: &[u16],
-    n: usize,
-) -> usize
-    requires enough_entries { (n ≤ length firsts.now) × ((n ≤ length seconds.now) × (n ≤ length weights.now)) }
-    requires room { at + length (orderings_text n 0 firsts.now seconds.now weights.now) ≤ length out.old }
-    ensures { (out.new ≡ put at (orderings_text n 0 firsts.now seconds.now weights.now) out.old) × (result ≡ at + length (orderings_text n 0 firsts.now seconds.now weights.now)) }
+// Prints the U lines.
+fn put_orderings(page: &mut Page, s: &Sheet)
+    requires few { s.now.ordering_count ≤ 64 }
+    requires room { Room page.old (orderings_text s.now.ordering_count 0 s.now.firsts s.now.seconds s.now.ordering_weights) }
+    ensures { Printed page.old page.new (orderings_text s.now.ordering_count 0 s.now.firsts s.now.seconds s.now.ordering_weights) }
 {
-    let mut i: usize = 0;
-    let mut p = at;
-    while i < n {
-        let a = firsts[i] as usize;
-        let b = seconds[i] as usize;
-        let w = weights[i] as usize;
-        p = put_three(out, p, 85, a, b, w);
-        i += 1;
+    for i in 0..s.ordering_count {
+        let first = usize::from(s.firsts[i]);
+        let second = usize::from(s.seconds[i]);
+        let weight = usize::from(s.ordering_weights[i]);
+        page.put_line(b'U', &[first, second, weight]);
     }
-    p
 }
 
 // Prints the text of a record at the start of a buffer, and gives its size.
@@ -79,26 +53,13 @@ pub fn put_text(s: Sheet, out: &mut [u8]) -> usize
     requires room { length (text_of s) ≤ length out.old }
     ensures { (out.new ≡ put 0 (text_of s) out.old) × (result ≡ length (text_of s)) }
 {
-    let letters = s.letters;
-    let befores = s.befores;
-    let afters = s.afters;
-    let p = put_catalogue(out, 0, &letters, &befores, &afters, s.catalogue_lines);
-    let numbers = s.numbers;
-    let weights = s.weights;
-    let q = put_options(out, p, &numbers, &weights, s.option_count);
-    let firsts = s.firsts;
-    let seconds = s.seconds;
-    let ordering_weights = s.ordering_weights;
-    let r = put_orderings(
-        out,
-        q,
-        &firsts,
-        &seconds,
-        &ordering_weights,
-        s.ordering_count,
-    );
-    let f = s.catalogue_lines + 1;
-    let u = f + s.option_count;
-    let t = u + s.ordering_count;
-    put_three(out, r, 84, f, u, t)
+    let mut page = Page::new(out);
+    put_catalogue(&mut page, &s);
+    put_options(&mut page, &s);
+    put_orderings(&mut page, &s);
+    let options_line = s.catalogue_lines + 1;
+    let orderings_line = options_line + s.option_count;
+    let trailer_line = orderings_line + s.ordering_count;
+    page.put_line(b'T', &[options_line, orderings_line, trailer_line]);
+    page.len()
 }

@@ -3,7 +3,6 @@ ghost use Rattle.std.specs.Prelude.{◌≡◌};
 ghost use Rattle.writer.specs.Write.{not_written, write_answer, write_buffer};
 
 use record::is_recorded;
-use shape::Place;
 use sheet::{Answer, Refusal, Sheet};
 use text::{put_text, text_size};
 
@@ -19,10 +18,7 @@ fn not_written(why: Refusal) -> Written
     ensures { result ≡ not_written why }
 {
     Written {
-        answer: Answer::Refused {
-            place: Place { line: 0, column: 0 },
-            why,
-        },
+        answer: Answer::refused(why),
         size: 0,
     }
 }

@@ -1,13 +1,8 @@
--- Storing all lines is storing those from i on into the buffer as it stands.
-use Prim.Native.Nat.{◌≤◌, ◌+◌, ◌-◌}
-use mathlib.Core.Path.{◌≡◌}
-use lib.ListN.{length}
+-- The lines from i on remain to be printed.
+use Rattle.std.proofs.Common.{◌-◌}
 use Rattle.sheet.specs.Text.{options_text}
-use Rattle.print.specs.Put.{put}
+use Rattle.print.proofs.PageLaws.{Remains}
 use Rattle.text.proofs.put.put_options.Given as goal
 
 abbrev pub invariant-loop-i : goal.invariant-loop-i
-invariant-loop-i l = (l.i ≤ l.n) × ((length l.out ≡ length l.initial.out) × ((put l.at (options_text l.n 0 l.numbers l.weights) l.initial.out ≡ put l.p (options_text (l.n - l.i) l.i l.numbers l.weights) l.out) × (l.at + length (options_text l.n 0 l.numbers l.weights) ≡ l.p + length (options_text (l.n - l.i) l.i l.numbers l.weights))))
-
-abbrev pub decreases-loop-i : goal.decreases-loop-i
-decreases-loop-i l = l.n - l.i
+invariant-loop-i l = Remains l.initial.page l.page (options_text l.s.option_count 0 l.s.numbers l.s.weights) (options_text (l.s.option_count - l.i) l.i l.s.numbers l.s.weights)

@@ -1,38 +1,28 @@
--- The four parts of the text are one run of stores.
-use borrow.Author.Rules.{rules}
-use mathlib.Core.Path.{◌≡◌, ap, ◌∙◌}
-use native.Mathlib.Omega.{arith}
-use lib.ListN.{length}
-use Rattle.sheet.proofs.PartLaws.{text_length}
-use Rattle.text.proofs.PrintLaws.{text_put}
-use Rattle.print.proofs.PutLaws.{put_length}
+-- The four parts of the text, printed one after the other on a page of the buffer, are the text.
+use Rattle.std.proofs.Common.{rules, ◌∙◌}
+use Rattle.print.proofs.PageLaws.{room_on_new, printed_on_new}
+use Rattle.text.proofs.PrintLaws.{catalogue_fits, options_fit, orderings_fit, trailer_fits, text_printed}
 use Rattle.text.proofs.put.put_text.Goals as goal
 
-pub put_catalogue-p-requires : goal.put_catalogue-p-requires
-put_catalogue-p-requires c = let lkind : length c.args.s.letters ≡ 512 = search (rules, c.well_formed) in
-    let lleft : length c.args.s.befores ≡ 512 = search (rules, c.well_formed) in
-    let lright : length c.args.s.afters ≡ 512 = search (rules, c.well_formed) in
-    record { enough_entries = (omega (arith, c.requires), (omega (arith, c.requires), omega (arith, c.requires))); room = omega (arith, text_length c.args.s, c.requires) }
+pub put_catalogue-requires-clause-room : goal.put_catalogue-requires-clause-room
+put_catalogue-requires-clause-room c = catalogue_fits c.args.s (room_on_new c.new-page.ensures.at c.new-page.ensures.bytes c.requires.room)
 
-pub put_options-q-requires : goal.put_options-q-requires
-put_options-q-requires c = let lid : length c.args.s.numbers ≡ 32 = search (rules, c.well_formed) in
-    let lweight : length c.args.s.weights ≡ 32 = search (rules, c.well_formed) in
-    let k = ap length c.put_catalogue-p.ensures.0 ∙ put_length _ _ _ in
-    record { enough_entries = (omega (arith, c.requires), omega (arith, c.requires)); room = omega (arith, k, text_length c.args.s, c.requires, c.put_catalogue-p.ensures.1) }
+pub put_options-requires-clause-room : goal.put_options-requires-clause-room
+put_options-requires-clause-room c = options_fit c.args.s (room_on_new c.new-page.ensures.at c.new-page.ensures.bytes c.requires.room) c.put_catalogue.ensures
 
-pub put_orderings-r-requires : goal.put_orderings-r-requires
-put_orderings-r-requires c = let lfirst : length c.args.s.firsts ≡ 64 = search (rules, c.well_formed) in
-    let lsecond : length c.args.s.seconds ≡ 64 = search (rules, c.well_formed) in
-    let lbonus : length c.args.s.ordering_weights ≡ 64 = search (rules, c.well_formed) in
-    let k = ap length c.put_catalogue-p.ensures.0 ∙ put_length _ _ _ in
-    let k2 = ap length c.put_options-q.ensures.0 ∙ put_length _ _ _ in
-    record { enough_entries = (omega (arith, c.requires), (omega (arith, c.requires), omega (arith, c.requires))); room = omega (arith, k, k2, text_length c.args.s, c.requires, c.put_catalogue-p.ensures.1, c.put_options-q.ensures.1) }
+pub put_orderings-requires-clause-room : goal.put_orderings-requires-clause-room
+put_orderings-requires-clause-room c =
+    orderings_fit c.args.s (room_on_new c.new-page.ensures.at c.new-page.ensures.bytes c.requires.room) c.put_catalogue.ensures c.put_options.ensures
 
-pub put_three-requires : goal.put_three-requires
-put_three-requires c = let k = ap length c.put_catalogue-p.ensures.0 ∙ put_length _ _ _ in
-    let k2 = ap length c.put_options-q.ensures.0 ∙ put_length _ _ _ in
-    let k3 = ap length c.put_orderings-r.ensures.0 ∙ put_length _ _ _ in
-    omega (arith, k, k2, k3, text_length c.args.s, c.requires, c.put_catalogue-p.ensures.1, c.put_options-q.ensures.1, c.put_orderings-r.ensures.1)
+pub put_line-requires : goal.put_line-requires
+put_line-requires c =
+    trailer_fits c.args.s (room_on_new c.new-page.ensures.at c.new-page.ensures.bytes c.requires.room) c.put_catalogue.ensures c.put_options.ensures c.put_orderings.ensures
 
 pub returns : goal.returns
-returns c = text_put c.args.s _ _ _ _ _ _ _ _ _ c.put_catalogue-p.ensures.0 c.put_catalogue-p.ensures.1 c.put_options-q.ensures.0 c.put_options-q.ensures.1 c.put_orderings-r.ensures.0 c.put_orderings-r.ensures.1 c.put_three.ensures.0 c.put_three.ensures.1
+returns c =
+    let at = c.new-page.ensures.at in
+    let bytes = c.new-page.ensures.bytes in
+    let printed = text_printed c.args.s (room_on_new at bytes c.requires.room) c.put_catalogue.ensures c.put_options.ensures c.put_orderings.ensures c.put_line.ensures in
+    let same = printed.same ∙ c.new-page.ensures.same in
+    let done = printed_on_new at bytes printed in
+    (search (rules, same, done), c.len.ensures ∙ done.1)

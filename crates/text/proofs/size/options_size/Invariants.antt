@@ -1,12 +1,7 @@
 -- The size so far and the length of the lines from i on add up to the length of all.
-use Prim.Native.Nat.{◌≤◌, ◌+◌, ◌-◌, ◌*◌}
-use mathlib.Core.Path.{◌≡◌}
-use lib.ListN.{length}
+use Rattle.std.proofs.Common.{◌≡◌, ◌≤◌, ◌+◌, ◌-◌, ◌*◌, length}
 use Rattle.sheet.specs.Text.{options_text}
 use Rattle.text.proofs.size.options_size.Given as goal
 
 abbrev pub invariant-loop-i : goal.invariant-loop-i
-invariant-loop-i l = (l.i ≤ l.n) × ((l.size ≤ 65 * l.i) × (length (options_text l.n 0 l.numbers l.weights) ≡ l.size + length (options_text (l.n - l.i) l.i l.numbers l.weights)))
-
-abbrev pub decreases-loop-i : goal.decreases-loop-i
-decreases-loop-i l = l.n - l.i
+invariant-loop-i l = (l.size ≤ 65 * l.i) × (length (options_text l.s.option_count 0 l.s.numbers l.s.weights) ≡ l.size + length (options_text (l.s.option_count - l.i) l.i l.s.numbers l.s.weights))

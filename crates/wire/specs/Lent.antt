@@ -1,17 +1,13 @@
 -- What becomes of an answer where a list or a lent output is wrong, and what a lent output holds afterwards.
 use Rattle.std.specs.Prelude.{ℕ, Bool, true, false, not, cond, ◌&&◌, List, ◌++◌, length, drop}
+use Rattle.sheet.specs.Answer.{refused}
 use Rattle.sheet.specs.declared.answer.Answer.{Answer}
 use Rattle.sheet.specs.declared.answer.Answer.TheVariants.{Accepted, Refused}
-use Rattle.sheet.specs.declared.answer.Refusal.{Refusal}
 use Rattle.sheet.specs.declared.answer.Refusal.TheVariants.{OutputTooShort, WrongDecisions}
 
 abbrev pub is_accepted : Answer → Bool
 is_accepted Accepted = true
 is_accepted (Refused place why) = false
-
--- A refusal at 0, 0.
-abbrev pub refused : Refusal → Answer
-refused why = Refused (record { line = 0; column = 0 }) why
 
 -- 14 after 12: of a good record, bytes that spell no decision list are refused.
 unfoldable pub with_list : Answer → (recorded spelled : Bool) → Answer

@@ -20,8 +20,7 @@ pub fn pack_answer(answer: Answer, count: usize) -> u64
     match answer {
         Answer::Accepted => pack(0, 0, 0, count),
         Answer::Refused { place, why } => {
-            let number = sheet::number_of(why);
-            pack(number as u64, place.line, place.column, 0)
+            pack(sheet::number_of(why) as u64, place.line, place.column, 0)
         }
     }
 }

@@ -10,7 +10,8 @@ use Rattle.sheet.specs.declared.answer.Refusal.TheVariants.{OutputTooShort, Wron
 use Rattle.print.specs.Put.{put}
 use Rattle.print.proofs.PutLaws.{put_whole}
 use Rattle.wire.specs.Packed.{packed_answer, Placed, Fits}
-use Rattle.wire.specs.Lent.{is_accepted, refused, with_list, lent, written}
+use Rattle.sheet.specs.Answer.{refused}
+use Rattle.wire.specs.Lent.{is_accepted, with_list, lent, written}
 
 pub placed_nowhere : (why : Refusal) → Placed (refused why)
 placed_nowhere why = (omega arith, omega arith)

@@ -1,10 +1,13 @@
--- Each turn counts one place.
-use native.Mathlib.Omega.{arith}
-use Rattle.wire.specs.laws.Places.{none_counted, count_next}
+-- Each place that holds an option counts one.
+use mathlib.Core.Path.{◌≡◌}
+use Rattle.std.proofs.Common.{rules, length}
+use Rattle.std.specs.List.{count_by}
+use Rattle.wire.specs.Places.{is_used}
+use Rattle.wire.specs.laws.Places.{all_used}
 use Rattle.wire.proofs.places_out.places_in_use.Goals as goal
 
-pub loop-i-init : goal.loop-i-init
-loop-i-init c = (omega arith, (none_counted c.args.places, omega arith))
-
-pub loop-i-preserved : goal.loop-i-preserved
-loop-i-preserved c = (omega arith, (count_next c.args.places _ c.loop-i.invariant.1.0 c.used-count.ensures.0, omega (arith, c.used-count.ensures.1)))
+pub returns : goal.returns
+returns c =
+    let long : length c.args.places ≡ 32 = search rules in
+    let used : c.count.result ≡ count_by (λ number. is_used number.0) c.args.places = search rules in
+    all_used c.args.places long used

@@ -7,7 +7,7 @@ use Rattle.wire.specs.laws.Places.{entry_of}
 use Rattle.wire.proofs.places_out.put_places.Goals as goal
 
 pub loop-i-init : goal.loop-i-init
-loop-i-init c = (omega arith, filled_nothing _ _ _)
+loop-i-init c = filled_nothing _ _ _
 
 pub loop-i-preserved : goal.loop-i-preserved
-loop-i-preserved c = (omega arith, filled_next 0 _ _ c.loop-i.invariant.1 (omega arith) (c.number_at.ensures ∙ ap (number_at c.args.places) (entry_of c.loop-i.i)))
+loop-i-preserved c = filled_next 0 _ _ c.loop-i.invariant (omega arith) (c.number_at.ensures ∙ ap (number_at c.args.places) (entry_of c.loop-i.i))

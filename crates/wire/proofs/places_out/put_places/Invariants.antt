@@ -1,11 +1,7 @@
 -- Each turn writes one place.
-use Prim.Native.Nat.{◌-◌, ◌≤◌}
 use Rattle.wire.specs.Places.{number_at}
 use Rattle.entries.specs.laws.Put.{Filled}
 use Rattle.wire.proofs.places_out.put_places.Given as goal
 
 abbrev pub invariant-loop-i : goal.invariant-loop-i
-invariant-loop-i l = (l.i ≤ 32) × Filled 0 (number_at l.places) l.i l.initial.out l.out
-
-abbrev pub decreases-loop-i : goal.decreases-loop-i
-decreases-loop-i l = 32 - l.i
+invariant-loop-i l = Filled 0 (number_at l.places) l.i l.initial.out l.out

@@ -1,8 +1,9 @@
 -- What `limits` answers: the limits of the rules, or a refusal.
-use Rattle.std.specs.Prelude.{false, cond, List, [], ◌∷◌, map, ℕ, zero, suc, replicate, take, drop}
+use Rattle.std.specs.Prelude.{false, cond, List, [], ◌∷◌, map, ℕ, zero, suc, take, drop}
 use Rattle.given.specs.Given.{undecided, decided_past, choice_of, decision_list}
 use Rattle.rules.specs.Results.{limits_of}
 use Rattle.cells.specs.Cells.{no_limit, shown_limit}
+use Rattle.limits.specs.Limited.{nothing_but}
 use Rattle.sheet.specs.Lines.{lines_of}
 use Rattle.sheet.specs.IsRecorded.{is_recorded}
 use Rattle.rules.specs.Results as R
@@ -33,14 +34,7 @@ shown_limits n l = record {
 
 -- The all-zero result.
 abbrev pub nothing_limited : Limited
-nothing_limited = record {
-  contradiction = false;
-  decisions = record { options = replicate 32 undecided; orderings = replicate 64 undecided };
-  lower = 0;
-  upper = 0;
-  options = replicate 32 no_limit;
-  orderings = replicate 64 no_limit;
-}
+nothing_limited = nothing_but false
 
 -- A refusal, whose number is `number_of why`, at 0, 0.
 abbrev pub limits_refused : Refusal → LimitsAnswer

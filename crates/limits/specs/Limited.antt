@@ -1,5 +1,5 @@
 -- What is worked out about a half-decided sheet, in the words of the rules.
-use Rattle.std.specs.Prelude.{◌≡◌, true, false, cond, replicate}
+use Rattle.std.specs.Prelude.{◌≡◌, Bool, true, false, cond, replicate}
 use Rattle.rules.specs.Subscription.{Subscription}
 use Rattle.rules.specs.Decisions.{DecidedBySlot}
 use Rattle.rules.specs.KnownBefore.{ordering_kept, option_kept}
@@ -15,16 +15,20 @@ use Rattle.chart.specs.declared.chart.Chart.{Chart}
 use Rattle.given.specs.declared.sets.Given.{Given}
 use Rattle.limits.specs.declared.whole.Limited.{Limited}
 
--- A contradiction: "its decisions are then all open and its limits all zero."
-abbrev pub contradictory : Limited
-contradictory = record {
-  contradiction = true;
+-- Everything open and all limits zero, beside a contradiction or none.
+abbrev pub nothing_but : Bool → Limited
+nothing_but contradicts = record {
+  contradiction = contradicts;
   decisions = record { options = replicate 32 undecided; orderings = replicate 64 undecided };
   lower = 0;
   upper = 0;
   options = replicate 32 no_limit;
   orderings = replicate 64 no_limit;
 }
+
+-- A contradiction: "its decisions are then all open and its limits all zero."
+abbrev pub contradictory : Limited
+contradictory = nothing_but true
 
 abbrev pub without_contradiction : Subscription → DecidedBySlot → Limited
 without_contradiction v b = record {

@@ -1,11 +1,9 @@
 // The public function: refusals first, then the whole answer.
 ghost use Rattle.std.specs.Prelude.{◌≡◌};
-ghost use Rattle.limits.specs.Answer.{nothing_limited, limits_refused, limits_answer};
+ghost use Rattle.limits.specs.Answer.{limits_refused, limits_answer};
 
 use crate::whole::{Limited, limits_of};
-use cells::no_limit;
-use shape::Place;
-use sheet::{Answer, Decision, Decisions, Refusal, Sheet};
+use sheet::{Answer, Decisions, Refusal, Sheet};
 
 #[derive(Clone, Copy)]
 pub struct LimitsAnswer {
@@ -13,34 +11,12 @@ pub struct LimitsAnswer {
     pub limits: Limited,
 }
 
-fn nothing() -> Limited
-    ensures { result ≡ nothing_limited }
-{
-    let o = Decision::Open;
-    let e = Decisions {
-        options: [o; 32],
-        orderings: [o; 64],
-    };
-    let z = no_limit();
-    Limited {
-        contradiction: false,
-        decisions: e,
-        lower: 0,
-        upper: 0,
-        options: [z; 32],
-        orderings: [z; 64],
-    }
-}
-
 fn refused(why: Refusal) -> LimitsAnswer
     ensures { result ≡ limits_refused why }
 {
-    let l = nothing();
-    let p = Place { line: 0, column: 0 };
-    let a = Answer::Refused { place: p, why: why };
     LimitsAnswer {
-        answer: a,
-        limits: l,
+        answer: Answer::refused(why),
+        limits: Limited::nothing_but(false),
     }
 }
 
@@ -58,11 +34,8 @@ pub fn limits(sheet: Sheet, decisions: Decisions) -> LimitsAnswer
         return refused(Refusal::WrongDecisions);
     }
     let chart = subscription::chart_of(&sheet);
-    let g = given::given_sets(decisions, n, m);
-    let l = limits_of(&chart, g);
-    let a = Answer::Accepted;
     LimitsAnswer {
-        answer: a,
-        limits: l,
+        answer: Answer::Accepted,
+        limits: limits_of(&chart, given::given_sets(decisions, n, m)),
     }
 }

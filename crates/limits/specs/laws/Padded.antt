@@ -1,12 +1,23 @@
 -- Lists of the rules, padded, are the lists that the code fills.
-use Rattle.std.specs.Prelude.{◌≡◌, refl, [], ◌∷◌, map, ℕ, zero, suc, replicate, take, drop}
-use Rattle.std.proofs.Common.{sym, ap, ◌∙◌}
+use Rattle.std.specs.Prelude.{◌≡◌, refl, List, [], ◌∷◌, map, ℕ, zero, suc, ◌<◌, ◌≤◌, length, get_or, replicate, take, drop}
+use Rattle.std.proofs.Common.{sym, ap, ◌∙◌, arith}
 use Rattle.rules.specs.Slots.{list_of}
 use Rattle.rules.specs.Decisions.{all_open}
 use Rattle.given.specs.Given.{undecided, choice_of}
 use Rattle.given.specs.Filled.{filled}
 use Rattle.limits.specs.Answer.{padded}
 use Rattle.rules.specs.Decisions as R
+
+-- What a list of k entries is, entry by entry.
+pub filled_by : {A : Type 0} (k n : ℕ) (f : ℕ → A) (z : A) (l : List A) → length l ≡ k → ((i : ℕ) → i < n → get_or l i z ≡ f i) → ((i : ℕ) → n ≤ i → get_or l i z ≡ z) → n ≤ k → l ≡ filled k n f z
+unfolding filled
+filled_by zero n f z [] e below above h = refl
+filled_by zero n f z (x ∷ l) e below above h = absurd (omega arith)
+filled_by (suc k) n f z [] e below above h = absurd (omega arith)
+filled_by (suc k) zero f z (x ∷ l) e below above h =
+    rw (above 0 (omega arith)) (ap (λ w. z ∷ w) (filled_by k zero f z l (omega arith) (λ i b. absurd (omega arith)) (λ i b. above (suc i) (omega arith)) (omega arith)))
+filled_by (suc k) (suc n) f z (x ∷ l) e below above h =
+    rw (below 0 (omega arith)) (ap (λ w. f 0 ∷ w) (filled_by k n (λ i. f (suc i)) z l (omega arith) (λ i b. below (suc i) (omega arith)) (λ i b. above (suc i) (omega arith)) (omega arith)))
 
 pub filled_padded : {A : Type 0} (k n : ℕ) (f : ℕ → A) (z : A) → filled k n f z ≡ padded k (list_of n f) z
 unfolding filled padded list_of

@@ -10,4 +10,4 @@ pub returns-then-has_decision_past : goal.returns-then-has_decision_past
 returns-then-has_decision_past c = c.refused-then-has_decision_past.ensures ∙ limits_wrong_decisions c.args.sheet c.args.decisions (sym c.is_recorded.ensures ∙ c.if-not-is_recorded.false) (sym c.has_decision_past.ensures ∙ c.if-has_decision_past.true)
 
 pub returns : goal.returns
-returns c = limits_told c.args.sheet c.args.decisions (sym c.is_recorded.ensures ∙ c.if-not-is_recorded.false) _ _ _ c.chart_of-chart.ensures c.given_sets-g.ensures c.limits_of-l.ensures (sym c.has_decision_past.ensures ∙ c.if-has_decision_past.false)
+returns c = limits_told c.args.sheet c.args.decisions (sym c.is_recorded.ensures ∙ c.if-not-is_recorded.false) _ _ _ c.chart_of-chart.ensures c.given_sets.ensures c.limits_of.ensures (sym c.has_decision_past.ensures ∙ c.if-has_decision_past.false)

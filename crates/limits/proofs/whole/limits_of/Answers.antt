@@ -3,8 +3,8 @@ use mathlib.Core.Path.{◌∙◌}
 use Rattle.limits.specs.laws.Limited.{limited_contradiction, limited_otherwise}
 use Rattle.limits.proofs.whole.limits_of.Goals as goal
 
-pub returns-then-clash : goal.returns-then-clash
-returns-then-clash c = λ v b shows weighs gives. c.contradictory.ensures ∙ limited_contradiction c.args.chart.now c.args.g _ c.force-f.ensures c.if-clash.true v b shows weighs gives
+pub returns-then-f : goal.returns-then-f
+returns-then-f c = λ v b shows weighs gives. c.nothing_but.ensures ∙ limited_contradiction c.args.chart.now c.args.g _ c.force-f.ensures c.if-f.true v b shows weighs gives
 
 pub returns : goal.returns
-returns c = limited_otherwise _ c.args.g _ c.force-f.ensures _ c.half_decided-h.ensures c.if-clash.false c.options_decided-o.ensures c.orderings_decided-u.ensures c.option_limits-x.ensures c.ordering_limits-y.ensures
+returns c = limited_otherwise _ c.args.g _ c.force-f.ensures _ c.half_decided-h.ensures c.if-f.false c.options_decided.ensures c.orderings_decided.ensures c.option_limits.ensures c.ordering_limits.ensures

@@ -1,10 +1,7 @@
--- Each turn writes one entry.
-use native.Mathlib.Omega.{arith}
-use Rattle.given.specs.laws.Filled.{filled_none, filled_step}
+-- Each entry is the limit of its slot, or none past the last.
+use Rattle.std.proofs.Common.{rules}
+use Rattle.limits.specs.laws.Padded.{filled_by}
 use Rattle.limits.proofs.whole.option_limits.Goals as goal
 
-pub loop-i-init : goal.loop-i-init
-loop-i-init c = (omega arith, rw c.no_limit-z.ensures (filled_none 32 _ _))
-
-pub loop-i-preserved : goal.loop-i-preserved
-loop-i-preserved c = (omega arith, filled_step 32 _ _ c.loop-i.invariant.1 (omega arith) c.option_limit-x.ensures)
+pub returns : goal.returns
+returns c = filled_by 32 _ _ _ _ c.each_limit.ensures.size (λ k l. let p = c.each_limit.ensures.below k l in search rules) c.each_limit.ensures.above c.args.chart.now.ends.few_options

@@ -1,10 +1,7 @@
--- Each turn writes one entry.
-use native.Mathlib.Omega.{arith}
-use Rattle.given.specs.laws.Filled.{filled_none, filled_step}
+-- Each entry is the limit of its slot, or none past the last.
+use Rattle.std.proofs.Common.{rules}
+use Rattle.limits.specs.laws.Padded.{filled_by}
 use Rattle.limits.proofs.whole.ordering_limits.Goals as goal
 
-pub loop-u-init : goal.loop-u-init
-loop-u-init c = (omega arith, rw c.no_limit-z.ensures (filled_none 64 _ _))
-
-pub loop-u-preserved : goal.loop-u-preserved
-loop-u-preserved c = (omega arith, filled_step 64 _ _ c.loop-u.invariant.1 (omega arith) c.ordering_limit-x.ensures)
+pub returns : goal.returns
+returns c = filled_by 64 _ _ _ _ c.each_limit.ensures.size (λ k l. let p = c.each_limit.ensures.below k l in search rules) c.each_limit.ensures.above c.args.chart.now.ends.few_orderings

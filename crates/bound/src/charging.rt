@@ -33,8 +33,7 @@ fn charge_one(
     ensures { ChargesMore chart.now known.now result left.old left.new }
 {
     let c = find(chart, known, after, h, &left.orderings, x, r.most);
-    let k = c.len;
-    charge(chart, known, &c.items, k, left)
+    charge(chart, known, &c.items[..c.len], left)
 }
 
 // As long as there are chains through an item, then through the next. Each takes all that one of its members holds, so 96 items leave at most

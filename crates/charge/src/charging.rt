@@ -16,50 +16,35 @@ pub struct Measure {
     pub was: [u32; 64],
 }
 
-pub fn measure_all(chart: &Chart, left: &Left, chain: &[u8], len: usize) -> Measure
-    requires { AllNamed chain.now len chart.now.option_count chart.now.ordering_count × (len ≤ length chain.now) × (len ≤ 64) × LeftFor chart.now left.now }
-    ensures { Measured chart.now.firsts chart.now.seconds chart.now.option_count chart.now.ordering_count left.now.options left.now.orderings chain.now len result.least result.was × (result.least ≤ 4259775) }
+pub fn measure_all(chart: &Chart, left: &Left, chain: &[u8]) -> Measure
+    requires { AllNamed chain.now (length chain.now) chart.now.option_count chart.now.ordering_count × (length chain.now ≤ 64) × LeftFor chart.now left.now }
+    ensures { Measured chart.now.firsts chart.now.seconds chart.now.option_count chart.now.ordering_count left.now.options left.now.orderings chain.now (length chain.now) result.least result.was × (result.least ≤ 4259775) }
 {
     let mut was: [u32; 64] = [0; 64];
     let mut least: u32 = 4259775;
-    let mut p: usize = 0;
-    while p < len {
-        let x = chain[p];
-        let h = held_by(chart, left, x);
-        was[p] = h;
-        if h < least {
-            least = h;
-        }
-        p += 1;
+    for (p, x) in chain.iter().enumerate() {
+        was[p] = held_by(chart, left, *x);
+        least = least.min(was[p]);
     }
-    Measure {
-        least: least,
-        was: was,
-    }
+    Measure { least, was }
 }
 
 // The chain is checked again, and only then is anything taken: whoever found it need promise nothing. What is charged comes back.
-pub fn charge(chart: &Chart, known: &[u32], chain: &[u8], len: usize, left: &mut Left) -> u32
-    requires { (chart.now.option_count ≤ length known.now) × (len ≤ length chain.now) × LeftFor chart.now left.old }
-    ensures { ChargedAs known.now chart.now.firsts chart.now.seconds chart.now.option_count chart.now.ordering_count chain.now len result left.old.options left.old.orderings left.new.options left.new.orderings }
+pub fn charge(chart: &Chart, known: &[u32], chain: &[u8], left: &mut Left) -> u32
+    requires { (chart.now.option_count ≤ length known.now) × LeftFor chart.now left.old }
+    ensures { ChargedAs known.now chart.now.firsts chart.now.seconds chart.now.option_count chart.now.ordering_count chain.now (length chain.now) result left.old.options left.old.orderings left.new.options left.new.orderings }
 {
-    if len == 0 {
+    if chain.is_empty() || chain.len() > 64 {
         return 0;
     }
-    if len > 64 {
+    if !all_named(chain, chart.option_count, chart.ordering_count) {
         return 0;
     }
-    let named = all_named(chain, len, chart.option_count, chart.ordering_count);
-    if !named {
-        return 0;
-    }
-    let closes = closed(chart, known, chain, len);
+    let closes = closed(chart, known, chain);
     if !closes {
         return 0;
     }
-    let t = measure_all(chart, &*left, chain, len);
-    let e = t.least;
-    let was = t.was;
+    let Measure { least, was } = measure_all(chart, left, chain);
     take_all(
         &chart.firsts,
         &chart.seconds,
@@ -68,9 +53,9 @@ pub fn charge(chart: &Chart, known: &[u32], chain: &[u8], len: usize, left: &mut
         &mut left.options,
         &mut left.orderings,
         chain,
-        len,
-        e,
+        chain.len(),
+        least,
         was,
     );
-    e
+    least
 }

@@ -5,7 +5,7 @@ ghost use Rattle.links.specs.Links.{AllNamed};
 ghost use Rattle.residual.specs.Taken.{LeftIn};
 ghost use Rattle.residual.specs.TakenAll.{Measured, Gave};
 
-use crate::taking::{held_among, take};
+use crate::taking::Ends;
 
 // Each member's consequences give e in all: what others took from them counts. The arrays and the counts stay apart: this call is told of in
 // docs/DECISIONS.md and may ask for no chart.
@@ -25,12 +25,18 @@ pub fn take_all(
     requires measured { Measured first.now second.now n m options.old orderings.old chain.now len e was × (e ≤ 4259775) }
     ensures { Gave first.now second.now n m chain.now e len options.old orderings.old options.new orderings.new }
 {
+    let ends = Ends {
+        first,
+        second,
+        option_count: n,
+        ordering_count: m,
+    };
     for q in 0..len {
         let x = chain[q];
-        let h = held_among(first, second, n, m, &*options, &*orderings, x);
+        let h = ends.held_by(&*options, &*orderings, x);
         let w = was[q];
         if w < h + e {
-            take(first, second, n, m, options, orderings, x, h + e - w);
+            ends.take(options, orderings, x, h + e - w);
         }
     }
 }

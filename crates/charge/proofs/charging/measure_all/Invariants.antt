@@ -1,10 +1,7 @@
 -- Each turn measures one member more.
-use Prim.Native.Nat.{◌≤◌, ◌-◌}
+use Prim.Native.Nat.{◌≤◌}
 use Rattle.residual.specs.TakenAll.{Measured}
 use Rattle.charge.proofs.charging.measure_all.Given as goal
 
 abbrev pub invariant-loop-p : goal.invariant-loop-p
-invariant-loop-p l = (l.p ≤ l.len) × Measured l.chart.firsts l.chart.seconds l.chart.option_count l.chart.ordering_count l.left.options l.left.orderings l.chain l.p l.least l.was × (l.least ≤ 4259775)
-
-abbrev pub decreases-loop-p : goal.decreases-loop-p
-decreases-loop-p l = l.len - l.p
+invariant-loop-p l = Measured l.chart.firsts l.chart.seconds l.chart.option_count l.chart.ordering_count l.left.options l.left.orderings l.chain l.p l.least l.was × (l.least ≤ 4259775)

@@ -56,10 +56,9 @@ fn charge_items(
         if r.enough <= h.charged {
             return;
         }
-        let y = next_holding(h.positive, &left.orderings, chart.ordering_count, x);
-        if 32 + chart.ordering_count <= y {
+        let Some(y) = next_holding(h.positive, &left.orderings, chart.ordering_count, x) else {
             return;
-        }
+        };
         let e = charge_one(chart, known, after, r, &*h, y, left);
         hints_after(chart, h, e, r.options, r.orderings, &*left);
         x = next_item(y, e);

@@ -5,8 +5,8 @@ use crate::hints::with_orderings;
 use chart::Chart;
 use picks::heaviest;
 
-// Its number; 96 where nothing is open.
-pub fn heaviest_item(chart: &Chart, open_options: u32, open_orderings: u64) -> usize
+// Its number; none where nothing is open.
+pub fn heaviest_item(chart: &Chart, open_options: u32, open_orderings: u64) -> Option<usize>
     ensures { Picked open_options open_orderings chart.now.option_count chart.now.ordering_count result }
 {
     let left = residual::start(chart, open_options, open_orderings);

@@ -84,16 +84,9 @@ fn holds_some(positive: u32, orderings: &[u32], m: usize, x: usize) -> bool
     false
 }
 
-// The first item from x on that is open and still holds something; 32 + m where there is none.
-pub fn next_holding(positive: u32, orderings: &[u32], m: usize, x: usize) -> usize
+// The first item from x on that is open and still holds something.
+pub fn next_holding(positive: u32, orderings: &[u32], m: usize, x: usize) -> Option<usize>
     requires { (m ≤ length orderings.now) × (m ≤ 64) }
 {
-    let mut y = x;
-    while y < 32 + m {
-        if holds_some(positive, orderings, m, y) {
-            return y;
-        }
-        y += 1;
-    }
-    y
+    (x..32 + m).find(|y| holds_some(positive, orderings, m, *y))
 }

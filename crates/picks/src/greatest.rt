@@ -4,25 +4,16 @@ ghost use Rattle.picks.specs.Picked.{OneOf};
 
 use rows::Slots;
 
-// The first member below n of the greatest value; n where there is none.
-pub fn greatest(values: &[u32], set: u64, n: usize) -> usize
+// The first member below n of the greatest value.
+pub fn greatest(values: &[u32], set: u64, n: usize) -> Option<usize>
     requires { (n ≤ 64) × (n ≤ length values.now) }
     ensures { OneOf set n n result }
 {
-    let mut best: u32 = 0;
-    let mut at = n;
-    let mut i: usize = 0;
-    while i < n {
-        let v = values[i];
-        let here = set.get(i);
-        let free = at == n;
-        let more = v > best;
-        let wanted = rows::either(free, more);
-        if rows::both(here, wanted) {
-            best = v;
-            at = i;
+    let mut best: Option<usize> = None;
+    for i in 0..n {
+        if set.get(i) && best.is_none_or(|b| values[b] < values[i]) {
+            best = Some(i);
         }
-        i += 1;
     }
-    at
+    best
 }

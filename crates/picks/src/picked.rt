@@ -7,7 +7,12 @@ use crate::score::{counted, option_scores, ordering_scores};
 use chart::Chart;
 
 // For the search of the value: open options first, by what hangs on them, then open orderings.
-pub fn pick(chart: &Chart, back: &[u32; 32], open_options: u32, open_orderings: u64) -> usize
+pub fn pick(
+    chart: &Chart,
+    back: &[u32; 32],
+    open_options: u32,
+    open_orderings: u64,
+) -> Option<usize>
     ensures { Picked open_options open_orderings chart.now.option_count chart.now.ordering_count result }
 {
     let n = chart.option_count;
@@ -15,16 +20,13 @@ pub fn pick(chart: &Chart, back: &[u32; 32], open_options: u32, open_orderings: 
     let from = counted(&chart.firsts, open_orderings, m);
     let to = counted(&chart.seconds, open_orderings, m);
     let s = option_scores(&chart.rows, back, open_options, &from, &to);
-    let i = greatest(&s, open_options as u64, n);
-    if i < n {
+    let i = greatest(&s, u64::from(open_options), n);
+    if i.is_some() {
         return i;
     }
     let t = ordering_scores(chart, back, open_orderings, &from, &to);
-    let u = greatest(&t, open_orderings, m);
-    if u < m {
-        return 32 + u;
-    }
-    96
+    let u = greatest(&t, open_orderings, m)?;
+    Some(32 + u)
 }
 
 // For the dive: the open item that holds most, options before orderings where they hold the same.
@@ -34,21 +36,14 @@ pub fn heaviest(
     left_orderings: &[u32; 64],
     open_options: u32,
     open_orderings: u64,
-) -> usize
+) -> Option<usize>
     ensures { Picked open_options open_orderings chart.now.option_count chart.now.ordering_count result }
 {
-    let n = chart.option_count;
-    let m = chart.ordering_count;
-    let i = greatest(held, open_options as u64, n);
-    let u = greatest(left_orderings, open_orderings, m);
-    if u == m {
-        return if i < n { i } else { 96 };
+    let option = greatest(held, u64::from(open_options), chart.option_count);
+    let ordering = greatest(left_orderings, open_orderings, chart.ordering_count);
+    match (option, ordering) {
+        (Some(i), Some(u)) if held[i] < left_orderings[u] => Some(32 + u),
+        (None, Some(u)) => Some(32 + u),
+        _ => option,
     }
-    if i == n {
-        return 32 + u;
-    }
-    if held[i] < left_orderings[u] {
-        return 32 + u;
-    }
-    i
 }

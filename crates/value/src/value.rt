@@ -26,10 +26,9 @@ pub fn dive(chart: &Chart, g: Given) -> u32
     if x.over {
         return 0;
     }
-    let i = heaviest_item(chart, x.open_options, x.open_orderings);
-    if 96 <= i {
+    let Some(i) = heaviest_item(chart, x.open_options, x.open_orderings) else {
         return x.lower;
-    }
+    };
     let kept = keep_item(x.given, i);
     dive(chart, kept)
 }
@@ -44,10 +43,9 @@ pub fn best_value(chart: &Chart, back: &[u32; 32], g: Given, floor: u32) -> u32
     if x.over {
         return floor;
     }
-    let i = pick(chart, back, x.open_options, x.open_orderings);
-    if 96 <= i {
+    let Some(i) = pick(chart, back, x.open_options, x.open_orderings) else {
         return greater(floor, x.lower);
-    }
+    };
     let kept = keep_item(x.given, i);
     let w = best_value(chart, back, kept, floor);
     let dropped = drop_item(x.given, i);

@@ -1,5 +1,5 @@
 -- The item that is taken up next is open; with it kept or dropped fewer items are open, and the sets stay apart.
-use Rattle.std.specs.Prelude.{◌≡◌, refl, Bool, true, false, not, ◌||◌, List, ℕ, ◌-◌, ◌≤◌, ◌<◌, get_or, T}
+use Rattle.std.specs.Prelude.{◌≡◌, refl, Bool, true, false, not, ◌||◌, List, ℕ, ◌-◌, ◌<◌, get_or, T, Some, None}
 use Rattle.chart.specs.declared.chart.Chart.{Chart}
 use Rattle.std.proofs.Common.{sym, subst, ap, ◌∙◌, arith}
 use Rattle.rules.specs.Decisions.{Decision, Open, Kept, Dropped, is_open, open_items}
@@ -20,8 +20,7 @@ neither true b e = absurd (subst T (sym e) tt)
 neither false true e = absurd (subst T (sym e) tt)
 neither false false e = (refl, refl)
 
-module _ {chart : Chart} {want : ℕ} {g : Given} (x : Settled) (left : LeftOf chart want g x)
-    (i : ℕ) (picked : Picked x.open_options x.open_orderings chart.option_count chart.ordering_count i) where
+module _ {chart : Chart} {want : ℕ} {g : Given} (x : Settled) (left : LeftOf chart want g x) where
   abbrev n : ℕ
   n = chart.option_count
 
@@ -29,11 +28,11 @@ module _ {chart : Chart} {want : ℕ} {g : Given} (x : Settled) (left : LeftOf c
   e = decisions_of chart x.given
 
   -- ---- an item is left
-  module _ (l : i < 96) where
+  module _ (i : ℕ) (picked : Picked x.open_options x.open_orderings chart.option_count chart.ordering_count (Some i)) where
     pub open_item : OpenItem chart x.given i
     open_item = record {
       option = λ k. let (b, h) = picked.option k in let (p, q) = neither (has x.given.kept i) (has x.given.dropped i) (sym (holds_at left.options i b) ∙ h) in (b, p, q);
-      ordering = λ k. let (b, h) = picked.ordering (i - 32) (omega arith) (omega arith) in let (p, q) = neither (has x.given.kept_orderings (i - 32)) (has x.given.dropped_orderings (i - 32)) (sym (holds_at left.orderings (i - 32) b) ∙ h) in (b, p, q);
+      ordering = λ k. let (b, h) = picked.ordering (i - 32) (omega arith) in let (p, q) = neither (has x.given.kept_orderings (i - 32)) (has x.given.dropped_orderings (i - 32)) (sym (holds_at left.orderings (i - 32) b) ∙ h) in (b, p, q);
     }
 
     pub is_open_there : T (is_open (get_or e (place n i) Open))
@@ -65,6 +64,6 @@ module _ {chart : Chart} {want : ℕ} {g : Given} (x : Settled) (left : LeftOf c
     dropped_apart y q = subst (Apart chart) (sym q) (item_dropped_apart chart x.given left.apart i open_item)
 
   -- ---- nothing is left open
-  pub none_open : 96 ≤ i → open_items e ≡ 0
-  none_open k = nothing_open chart x.given
-      (λ j l. sym (holds_at left.options j l) ∙ picked.no_option k j l) (λ u l. sym (holds_at left.orderings u l) ∙ picked.no_ordering k u l)
+  pub none_open : Picked x.open_options x.open_orderings chart.option_count chart.ordering_count None → open_items e ≡ 0
+  none_open picked = nothing_open chart x.given
+      (λ j l. sym (holds_at left.options j l) ∙ picked.no_option j l) (λ u l. sym (holds_at left.orderings u l) ∙ picked.no_ordering u l)

@@ -1,5 +1,5 @@
 -- Each way out of the dive and of the pass for the value keeps its promise; what they come to for the whole sheet.
-use Rattle.std.specs.Prelude.{◌≡◌, Bool, true, false, not, List, ℕ, suc, ◌+◌, ◌≤◌, ◌<◌, max, T, leb}
+use Rattle.std.specs.Prelude.{◌≡◌, Bool, true, false, not, List, ℕ, suc, ◌+◌, ◌≤◌, ◌<◌, max, T, leb, Some, None}
 use Rattle.chart.specs.declared.chart.Chart.{Chart}
 use Rattle.std.proofs.Common.{sym, subst, ap, ◌∙◌, arith, leb→le}
 use Rattle.std.proofs.Math.Dec.{nleb→lt}
@@ -49,7 +49,7 @@ module _ (chart : Chart) (floor : ℕ) (small : floor ≤ largest_sum) (g : Give
   pub value_over : x.over ≡ true → Promise floor g floor
   value_over e = record { small = small; valued = λ s sh stop. value_cut (value_of s) (ConsistentRelaxation s) stop floor d floor (λ r o a. let h = settled.over e s sh r o a in omega arith) (omega arith) }
 
-  module _ (e : x.over ≡ false) (i : ℕ) (picked : Picked x.open_options x.open_orderings n m i) where
+  module _ (e : x.over ≡ false) where
     left : LeftOf chart (floor + 1) g x
     left = settled.left e
 
@@ -57,11 +57,11 @@ module _ (chart : Chart) (floor : ℕ) (small : floor ≤ largest_sum) (g : Give
     of_left s sh stop w v = value_reduced (value_of s) (ConsistentRelaxation s) stop floor w d (decisions_of chart x.given)
         (subst (λ k. Reduces (value_of s) (ConsistentRelaxation s) 0 k d (decisions_of chart x.given)) (let q : floor + 1 ≡ suc floor = omega arith in q) (left.reduces s sh)) v
 
-    pub value_at_leaf : 96 ≤ i → (w : ℕ) → w ≡ max floor x.lower → Promise floor g w
-    value_at_leaf k w q = record { small = (let l = left.small in omega arith); valued = λ s sh stop. of_left s sh stop w (go s sh stop (leb floor x.lower) (leb→le floor x.lower) (nleb→lt floor x.lower)) }
+    pub value_at_leaf : Picked x.open_options x.open_orderings n m None → (w : ℕ) → w ≡ max floor x.lower → Promise floor g w
+    value_at_leaf picked w q = record { small = (let l = left.small in omega arith); valued = λ s sh stop. of_left s sh stop w (go s sh stop (leb floor x.lower) (leb→le floor x.lower) (nleb→lt floor x.lower)) }
       where
         z : open_items (decisions_of chart x.given) ≡ 0
-        z = none_open x left i picked k
+        z = none_open x left picked
 
         go : (s : Lines) → (sh : ShowsSheet s chart) → (stop : ℕ) → (b : Bool) → (T b → floor ≤ x.lower) → (T (not b) → x.lower < floor) → Valued (value_of s) (ConsistentRelaxation s) stop floor (decisions_of chart x.given) w
         go s sh stop true p _ = let v = left.worth s sh in let l = p tt in
@@ -72,10 +72,10 @@ module _ (chart : Chart) (floor : ℕ) (small : floor ≤ largest_sum) (g : Give
             (value_worse (value_of s) (ConsistentRelaxation s) stop floor (decisions_of chart x.given) z (omega arith))
 
     -- any open item is kept (y), and after that dropped (z)
-    pub value_at_split : i < 96 → (y z : Given) → y ≡ with_item_kept x.given i → z ≡ with_item_dropped x.given i → (b w : ℕ) → Promise floor y b → Promise b z w → Promise floor g w
-    value_at_split l y z p q b w u v = record {
+    pub value_at_split : (i : ℕ) → Picked x.open_options x.open_orderings n m (Some i) → (y z : Given) → y ≡ with_item_kept x.given i → z ≡ with_item_dropped x.given i → (b w : ℕ) → Promise floor y b → Promise b z w → Promise floor g w
+    value_at_split i picked y z p q b w u v = record {
       small = v.small;
-      valued = λ s sh stop. of_left s sh stop w (value_split (value_of s) (ConsistentRelaxation s) stop floor b w (decisions_of chart x.given) (place n i) (is_open_there x left i picked l)
-          (subst (λ k. Valued (value_of s) (ConsistentRelaxation s) stop floor k b) (ap (decisions_of chart) p ∙ sym (item_kept_shown chart x.given i (open_item x left i picked l))) (u.valued s sh stop))
-          (subst (λ k. Valued (value_of s) (ConsistentRelaxation s) stop b k w) (ap (decisions_of chart) q ∙ sym (item_dropped_shown chart x.given i (open_item x left i picked l))) (v.valued s sh stop)));
+      valued = λ s sh stop. of_left s sh stop w (value_split (value_of s) (ConsistentRelaxation s) stop floor b w (decisions_of chart x.given) (place n i) (is_open_there x left i picked)
+          (subst (λ k. Valued (value_of s) (ConsistentRelaxation s) stop floor k b) (ap (decisions_of chart) p ∙ sym (item_kept_shown chart x.given i (open_item x left i picked))) (u.valued s sh stop))
+          (subst (λ k. Valued (value_of s) (ConsistentRelaxation s) stop b k w) (ap (decisions_of chart) q ∙ sym (item_dropped_shown chart x.given i (open_item x left i picked))) (v.valued s sh stop)));
     }

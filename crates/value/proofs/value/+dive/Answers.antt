@@ -9,4 +9,5 @@ returns-then-x t c = reached_nought _
 pub dive-requires : goal.dive-requires
 dive-requires t c =
     let left = c.settle-x.ensures.left c.if-x.false in
-    (kept_falls _ left _ c.heaviest_item-i.ensures c.if-i-ge96.false _ c.keep_item-kept.ensures _ c.decreases, kept_apart _ left _ c.heaviest_item-i.ensures c.if-i-ge96.false _ c.keep_item-kept.ensures)
+    let picked = rw c.in-Some.is at c.heaviest_item.ensures in
+    (kept_falls _ left _ picked _ c.keep_item-kept.ensures _ c.decreases, kept_apart _ left _ picked _ c.keep_item-kept.ensures)

@@ -1,5 +1,5 @@
 -- What is left of a half-decided sheet once all that follows is decided, towards a value that is wanted.
-use Rattle.std.specs.Prelude.{◌≡◌, Bool, true, false, not, ◌||◌, List, ℕ, ◌≤◌, ◌<◌}
+use Rattle.std.specs.Prelude.{◌≡◌, Bool, false, not, ◌||◌, List, ℕ, ◌≤◌, ◌<◌, Option, IfSome, IfNone}
 use Rattle.chart.specs.declared.chart.Chart.{Chart}
 use Rattle.rules.specs.Lines.{Lines}
 use Rattle.rules.specs.Relaxation.{ConsistentRelaxation, value_of}
@@ -18,6 +18,7 @@ use Rattle.chart.specs.Chart.{ShowsSheet}
 use Rattle.keeping.specs.Sets.{decisions_of, Apart}
 use Rattle.settle.specs.declared.settling.Settled.{Settled}
 use Rattle.settle.specs.declared.settling.Step.{Step}
+use Rattle.settle.specs.declared.settling.Step.TheVariants.{Over, Done, Again}
 
 -- The decisions that are left lose nothing that is worth what is wanted, and what they keep is itself a consistent relaxation.
 pub record LeftOf (chart : Chart) (want : ℕ) (g : Given) (x : Settled) : Type 0 where
@@ -30,21 +31,29 @@ pub record LeftOf (chart : Chart) (want : ℕ) (g : Given) (x : Settled) : Type 
   pub consistent : (s : Lines) → ShowsSheet s chart → ConsistentRelaxation s (just_the_kept (decisions_of chart x.given))
   pub worth : (s : Lines) → ShowsSheet s chart → value_of s (just_the_kept (decisions_of chart x.given)) ≡ x.lower
 
-pub record SettledAs (chart : Chart) (want : ℕ) (g : Given) (x : Settled) : Type 0 where
-  -- nothing that agrees is worth what is wanted
-  pub over : x.over ≡ true → (s : Lines) → ShowsSheet s chart → (r : List Bool) → ConsistentRelaxation s r → Agrees (decisions_of chart g) r → value_of s r < want
-  pub left : x.over ≡ false → LeftOf chart want g x
+-- Nothing that agrees is worth what is wanted.
+abbrev pub NothingWorth : (chart : Chart) (want : ℕ) (g : Given) → Type 0
+NothingWorth chart want g = (s : Lines) → ShowsSheet s chart → (r : List Bool) → ConsistentRelaxation s r → Agrees (decisions_of chart g) r → value_of s r < want
 
--- One round: settled, or fewer items are left open and nothing is lost that is worth what is wanted.
-pub record StepAs (chart : Chart) (want : ℕ) (g : Given) (x : Step) : Type 0 where
-  pub settled : x.more ≡ false → SettledAs chart want g x.settled
-  pub apart : x.more ≡ true → Apart chart x.settled.given
-  pub fewer : x.more ≡ true → open_items (decisions_of chart x.settled.given) < open_items (decisions_of chart g)
-  pub reduces : x.more ≡ true → (s : Lines) → ShowsSheet s chart → Reduces (value_of s) (ConsistentRelaxation s) 0 want (decisions_of chart g) (decisions_of chart x.settled.given)
+pub record SettledAs (chart : Chart) (want : ℕ) (g : Given) (x : Option Settled) : Type 0 where
+  pub over : IfNone x (NothingWorth chart want g)
+  pub left : IfSome x (LeftOf chart want g)
 
--- What a round leaves.
-abbrev pub left_with : Given → Half → Bool → Step
-left_with g h more = record { settled = record { over = false; given = g; open_options = h.open_options; open_orderings = h.open_orderings; lower = h.lower }; more = more }
+-- More decisions: fewer items are left open and nothing is lost that is worth what is wanted.
+pub record GoesOn (chart : Chart) (want : ℕ) (g more : Given) : Type 0 where
+  pub apart : Apart chart more
+  pub fewer : open_items (decisions_of chart more) < open_items (decisions_of chart g)
+  pub reduces : (s : Lines) → ShowsSheet s chart → Reduces (value_of s) (ConsistentRelaxation s) 0 want (decisions_of chart g) (decisions_of chart more)
+
+-- One round: settled, or there are more decisions.
+abbrev pub StepAs : (chart : Chart) (want : ℕ) (g : Given) → Step → Type 0
+StepAs chart want g Over = NothingWorth chart want g
+StepAs chart want g (Done x) = LeftOf chart want g x
+StepAs chart want g (Again more) = GoesOn chart want g more
+
+-- What is left of the decisions and of what the forced ones leave open.
+abbrev pub left_with : Given → Half → Settled
+left_with g h = record { given = g; open_options = h.open_options; open_orderings = h.open_orderings; lower = h.lower }
 
 -- After forcing: a round for whatever decisions these are forced by.
 pub record AfterForcing (chart : Chart) (want : ℕ) (f : Forced) (h : Half) (x : Step) : Type 0 where

@@ -1,5 +1,5 @@
 // Settling a half-decided sheet towards a value that is wanted.
-ghost use Rattle.std.specs.Prelude.{◌≡◌, true, false, ◌+◌, ◌≤◌};
+ghost use Rattle.std.specs.Prelude.{◌≡◌, ◌+◌, ◌≤◌};
 ghost use Rattle.sheet.specs.Limits.{largest_value};
 ghost use Rattle.half.specs.Weights.{largest_sum};
 ghost use Rattle.keeping.specs.Sets.{Apart, sets_of};
@@ -13,36 +13,21 @@ use graph::transposed;
 use half::Half;
 use keeping::keep_more;
 
-// Whether nothing here is worth what is wanted; otherwise the decisions that are left, what they leave open and what they keep in weight.
+// The decisions that are left, what they leave open and what they keep in weight.
 #[derive(Clone, Copy)]
 pub struct Settled {
-    pub over: bool,
     pub given: Given,
     pub open_options: u32,
     pub open_orderings: u64,
     pub lower: u32,
 }
 
-// One round: where more was kept than was forced, there is another.
+// One round: nothing here is worth what is wanted; no more follows; or more was kept than was forced, and there is another.
 #[derive(Clone, Copy)]
-pub struct Step {
-    pub settled: Settled,
-    pub more: bool,
-}
-
-fn nothing_left(g: Given) -> Step
-    ensures { (result.settled.over ≡ true) × (result.more ≡ false) }
-{
-    Step {
-        settled: Settled {
-            over: true,
-            given: g,
-            open_options: 0,
-            open_orderings: 0,
-            lower: 0,
-        },
-        more: false,
-    }
+pub enum Step {
+    Over,
+    Done(Settled),
+    Again(Given),
 }
 
 // How much must be charged to bring the upper limit below what is wanted. Where any value will do, nothing need be charged.
@@ -55,10 +40,7 @@ fn enough(upper: u32, want: u32) -> u32
 
 // Whether nothing is open any more.
 fn is_decided(h: &Half) -> bool {
-    if h.open_options != 0 {
-        return false;
-    }
-    h.open_orderings == 0
+    h.open_options == 0 && h.open_orderings == 0
 }
 
 // The forced decisions, as sets.
@@ -73,19 +55,15 @@ fn sets_of(f: &Forced) -> Given
     }
 }
 
-// The decisions that are left, with what the forced ones leave open and keep in weight; where they are more, there is another round.
-fn left_with(g: Given, h: &Half, more: bool) -> Step
-    ensures { result ≡ left_with g h.now more }
+// The decisions that are left, with what the forced ones leave open and keep in weight.
+fn left_with(given: Given, h: &Half) -> Settled
+    ensures { result ≡ left_with given h.now }
 {
-    Step {
-        settled: Settled {
-            over: false,
-            given: g,
-            open_options: h.open_options,
-            open_orderings: h.open_orderings,
-            lower: h.lower,
-        },
-        more: more,
+    Settled {
+        given,
+        open_options: h.open_options,
+        open_orderings: h.open_orderings,
+        lower: h.lower,
     }
 }
 
@@ -99,11 +77,13 @@ fn after_forcing(chart: &Chart, f: &Forced, h: &Half, want: u32) -> Step
     let e = enough(h.upper, want);
     let c = bound(chart, &h.known, &after, h.open_options, h.open_orderings, e);
     if h.upper < want + c.charged {
-        return nothing_left(g);
+        return Step::Over;
     }
     let spare = h.upper - want - c.charged;
-    let k = keep_more(chart, g, h, &after, &c.left, spare);
-    left_with(k.given, h, k.more)
+    match keep_more(chart, g, h, &after, &c.left, spare) {
+        None => Step::Done(left_with(g, h)),
+        Some(more) => Step::Again(more),
+    }
 }
 
 // One round: forced decisions, and an end where even their upper limit is below what is wanted.
@@ -112,29 +92,27 @@ fn one_round(chart: &Chart, g: Given, want: u32) -> Step
     ensures { StepAs chart.now want g result }
 {
     let f = forced::force(chart, g);
-    let contradiction = f.contradiction;
-    if contradiction {
-        return nothing_left(g);
+    if f.contradiction {
+        return Step::Over;
     }
     let h = half::half_decided(chart, &f);
     if h.upper < want {
-        return nothing_left(g);
+        return Step::Over;
     }
     if is_decided(&h) {
-        let left = sets_of(&f);
-        return left_with(left, &h, false);
+        return Step::Done(left_with(sets_of(&f), &h));
     }
     after_forcing(chart, &f, &h, want)
 }
 
-// Round after round, until nothing more is kept.
-pub fn settle(chart: &Chart, g: Given, want: u32) -> Settled
+// Round after round, until nothing more is kept. None: nothing here is worth what is wanted.
+pub fn settle(chart: &Chart, g: Given, want: u32) -> Option<Settled>
     requires { Apart chart.now g × (want ≤ largest_sum + 1 + largest_value) }
     ensures { SettledAs chart.now want g result }
 {
-    let x = one_round(chart, g, want);
-    if x.more {
-        return settle(chart, x.settled.given, want);
+    match one_round(chart, g, want) {
+        Step::Over => None,
+        Step::Done(settled) => Some(settled),
+        Step::Again(more) => settle(chart, more, want),
     }
-    x.settled
 }

@@ -28,7 +28,7 @@ use Rattle.forced.specs.declared.forcing.Forced.{Forced}
 use Rattle.half.specs.declared.opened.Half.{Half}
 use Rattle.chart.specs.Chart.{ShowsSheet}
 use Rattle.keeping.specs.Sets.{decisions_of, Apart, sets_of}
-use Rattle.settle.specs.Settled.{SettledAs}
+use Rattle.settle.specs.Settled.{LeftOf, NothingWorth, left_with}
 use Rattle.keeping.specs.laws.Shown.{size_of, counted_is, forced_as, forced_shown}
 use Rattle.keeping.specs.laws.Apart.{forced_apart}
 use Rattle.settle.specs.declared.settling.Settled.{Settled}
@@ -76,33 +76,27 @@ module _ (chart : Chart) (want : ℕ) (g : Given) (apart : Apart chart g) (f : F
       upper_holds r ok ag = let k = whole_upper_holds v b (kept_by_slot s r) (consistent_by_slot s r ok) (agrees_by_slot s d r ag) in let q = upper_is in omega arith
 
   -- ---- an end
-  abbrev Over : Type 0
-  Over = (s : Lines) → ShowsSheet s chart → (r : List Bool) → ConsistentRelaxation s r → Agrees d r → value_of s r < want
-
-  pub over_settles : (x : Settled) → x.over ≡ true → Over → SettledAs chart want g x
-  over_settles x e h = record { over = λ _. h; left = λ q. absurd (subst T (sym e ∙ q) tt) }
-
-  pub contradiction_settles : (x : Settled) → x.over ≡ true → f.contradiction ≡ true → SettledAs chart want g x
-  contradiction_settles x q e = over_settles x q (λ s sh r ok ag.
-      absurd (T_not (contradiction (v s sh) (b s sh)) (no_contradiction_in (v s sh) (b s sh) (no_contradiction (v s sh) (b s sh) (kept_by_slot s r) (consistent_by_slot s r ok) (agrees_by_slot s d r ag))) (subst T (sym (sym (fa s sh).contradicts ∙ e)) tt)))
+  pub contradiction_settles : f.contradiction ≡ true → NothingWorth chart want g
+  contradiction_settles e = λ s sh r ok ag.
+      absurd (T_not (contradiction (v s sh) (b s sh)) (no_contradiction_in (v s sh) (b s sh) (no_contradiction (v s sh) (b s sh) (kept_by_slot s r) (consistent_by_slot s r ok) (agrees_by_slot s d r ag))) (subst T (sym (sym (fa s sh).contradicts ∙ e)) tt))
 
   module _ (h : Half) (half : HalfDecidedAs chart f h) (e : f.contradiction ≡ false) where
-    pub limit_settles : (x : Settled) → x.over ≡ true → h.upper < want → SettledAs chart want g x
-    limit_settles x q l = over_settles x q (λ s sh r ok ag. let k = upper_holds s sh h half r ok ag in omega arith)
+    pub limit_settles : h.upper < want → NothingWorth chart want g
+    limit_settles l = λ s sh r ok ag. let k = upper_holds s sh h half r ok ag in omega arith
 
     -- ---- the forced decisions are left
-    pub forced_settles : SettledAs chart want g (record { over = false; given = sets_of f; open_options = h.open_options; open_orderings = h.open_orderings; lower = h.lower })
+    pub forced_settles : LeftOf chart want g (left_with (sets_of f) h)
     forced_settles = record {
-      over = λ q. absurd (subst T (sym q) tt);
-      left = λ _. record {
-        apart = forced_apart chart g apart f by e;
-        options = half.options;
-        orderings = half.orderings;
-        no_more_open = ∥∥₁_elim chart.of_a_sheet (hlevel props) (λ a. let s = a.lines in let sh = a.show in subst (λ z. open_items z ≤ open_items d) (forced_shown chart s sh g apart f by) (forcing_opens_nothing s sh.proper d (size s sh) (fine s sh e)));
-        small = half.roomy.lower;
-        reduces = λ s sh. subst (Reduces (value_of s) (ConsistentRelaxation s) 0 want d) (forced_shown chart s sh g apart f by)
-            (reduces_forced (value_of s) (ConsistentRelaxation s) 0 want d (forced s d) (forced_agrees s sh.proper d (size s sh) (fine s sh e)) (agrees_with_forced s sh.proper d (size s sh)));
-        consistent = λ s sh. subst (λ z. ConsistentRelaxation s (just_the_kept z)) (forced_shown chart s sh g apart f by) (least_is_consistent s sh.proper d (size s sh) (fine s sh e));
-        worth = λ s sh. ap (λ z. value_of s (just_the_kept z)) (sym (forced_shown chart s sh g apart f by)) ∙ least_is_worth_K s sh.proper d (size s sh) (fine s sh e) ∙ sym (lower_is s sh h half);
-      };
+      apart = forced_apart chart g apart f by e;
+      options = half.options;
+      orderings = half.orderings;
+      no_more_open = ∥∥₁_elim chart.of_a_sheet (hlevel props) (λ a. let s = a.lines in let sh = a.show in subst (λ z. open_items z ≤ open_items d) (forced_shown chart s sh g apart f by) (forcing_opens_nothing s sh.proper d (size s sh) (fine s sh e)));
+      small = half.roomy.lower;
+      reduces = λ s sh. subst (Reduces (value_of s) (ConsistentRelaxation s) 0 want d) (forced_shown chart s sh g apart f by)
+          (reduces_forced (value_of s) (ConsistentRelaxation s) 0 want d (forced s d) (forced_agrees s sh.proper d (size s sh) (fine s sh e)) (agrees_with_forced s sh.proper d (size s sh)));
+      consistent = λ s sh. subst (λ z. ConsistentRelaxation s (just_the_kept z)) (forced_shown chart s sh g apart f by) (least_is_consistent s sh.proper d (size s sh) (fine s sh e));
+      worth = λ s sh. ap (λ z. value_of s (just_the_kept z)) (sym (forced_shown chart s sh g apart f by)) ∙ least_is_worth_K s sh.proper d (size s sh) (fine s sh e) ∙ sym (lower_is s sh h half);
     }
+
+    pub forced_are_left : (left : Given) → left ≡ sets_of f → (x : Settled) → x ≡ left_with left h → LeftOf chart want g x
+    forced_are_left left sets x is = subst (LeftOf chart want g) (sym (is ∙ ap (λ z. left_with z h) sets)) forced_settles

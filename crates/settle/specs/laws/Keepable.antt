@@ -45,7 +45,6 @@ use Rattle.keeping.specs.Sets.{decisions_of, Apart, sets_of}
 use Rattle.keeping.specs.Keeping.{MayKeep, needed, loose, KeptMore}
 use Rattle.keeping.specs.laws.Shown.{size_of, counted_is, forced_as, forced_shown, option_stands, ordering_stands}
 use Rattle.settle.specs.laws.Forcing.{size, upper_is}
-use Rattle.keeping.specs.declared.keeping.More.{More}
 
 not_has : (b : Bool) → (T b → ⊥) → b ≡ false
 not_has true k = absurd (k tt)
@@ -100,12 +99,12 @@ module _ (chart : Chart) (want : ℕ) (g : Given) (apart : Apart chart g) (f : F
 
   -- ---- what is kept besides
   module _ (after : List ℕ) (turn : C.Transposed h.known n n after) (low : want + c.charged ≤ h.upper)
-      (spare : ℕ) (es : spare ≡ h.upper - want - c.charged) (k : More) (kept : KeptMore chart h after c.left spare (sets_of f) k) where
+      (spare : ℕ) (es : spare ≡ h.upper - want - c.charged) (k : Given) (kept : KeptMore chart h after c.left spare (sets_of f) k) where
     abbrev d : List Decision
     d = decisions_of chart g
 
     abbrev e : List Decision
-    e = decisions_of chart k.given
+    e = decisions_of chart k
 
     abbrev r : Residual
     r = residual_of c.left
@@ -173,8 +172,8 @@ module _ (chart : Chart) (want : ℕ) (g : Given) (apart : Apart chart g) (f : F
         -- an option
         option_place : p < n → AsForcedOrKept s sh.proper 0 d (size chart want g apart f by s sh) want e p
         unfolding item_at
-        option_place l = at_place p (has f.kept p) (has k.given.kept p) (has f.dropped p) (numbered p)
-            (option_stands chart k.given p l ∙ ap (λ z. decision_of (has k.given.kept p) (has z p)) kept.dropped)
+        option_place l = at_place p (has f.kept p) (has k.kept p) (has f.dropped p) (numbered p)
+            (option_stands chart k p l ∙ ap (λ z. decision_of (has k.kept p) (has z p)) kept.dropped)
             (ap (λ z. get_or z p Open) forced_is ∙ option_stands chart (sets_of f) p l)
             (ap (λ z. cond z (option p) (ordering (p - length s.options))) (lt-ltb p (length s.options) (let q = sh.options in omega arith)) ∙ sym (numbered_option p (let q = chart.ends.few_options in omega arith)))
             (kept.option.keeps p) (λ t. go (kept.option.only p t))
@@ -190,8 +189,8 @@ module _ (chart : Chart) (want : ℕ) (g : Given) (apart : Apart chart g) (f : F
         -- an ordering
         ordering_place : (u : ℕ) → u < m → p ≡ n + u → AsForcedOrKept s sh.proper 0 d (size chart want g apart f by s sh) want e p
         unfolding item_at
-        ordering_place u l q = at_place p (has f.kept_orderings u) (has k.given.kept_orderings u) (has f.dropped_orderings u) (numbered (32 + u))
-            (ap (λ z. get_or e z Open) q ∙ ordering_stands chart k.given u l ∙ ap (λ z. decision_of (has k.given.kept_orderings u) (has z u)) kept.dropped_orderings)
+        ordering_place u l q = at_place p (has f.kept_orderings u) (has k.kept_orderings u) (has f.dropped_orderings u) (numbered (32 + u))
+            (ap (λ z. get_or e z Open) q ∙ ordering_stands chart k u l ∙ ap (λ z. decision_of (has k.kept_orderings u) (has z u)) kept.dropped_orderings)
             (ap (λ z. get_or z p Open) forced_is ∙ ap (λ z. get_or (decisions_of chart (sets_of f)) z Open) q ∙ ordering_stands chart (sets_of f) u l)
             (ap (λ z. cond z (option p) (ordering (p - length s.options))) (le-ltb p (length s.options) (let z = sh.options in omega arith)) ∙ ap ordering (let z = sh.options in let y : p - length s.options ≡ 32 + u - 32 = omega arith in y) ∙ sym (numbered_ordering (32 + u) (omega arith)))
             (kept.ordering.keeps u) (λ t. go (kept.ordering.only u t))
@@ -207,7 +206,7 @@ module _ (chart : Chart) (want : ℕ) (g : Given) (apart : Apart chart g) (f : F
       pub keeps_keepable : KeepsKeepable s sh.proper 0 d (size chart want g apart f by s sh) want e
       unfolding decisions_of
       keeps_keepable = record {
-        long = size_of s n m sh.options sh.orderings (λ i. decision_of (has k.given.kept i) (has k.given.dropped i)) (λ u. decision_of (has k.given.kept_orderings u) (has k.given.dropped_orderings u));
+        long = size_of s n m sh.options sh.orderings (λ i. decision_of (has k.kept i) (has k.dropped i)) (λ u. decision_of (has k.kept_orderings u) (has k.dropped_orderings u));
         places = λ p l. go p l (ltb p n) refl;
       }
         where

@@ -1,5 +1,5 @@
 -- One round of settling keeps its promise, and round after round does.
-use Rattle.std.specs.Prelude.{◌≡◌, refl, Bool, true, false, not, ◌||◌, ◌⊎◌, List, ℕ, ◌+◌, ◌-◌, ◌≤◌, ◌<◌, get_or, T}
+use Rattle.std.specs.Prelude.{◌≡◌, ◌≢◌, refl, Bool, true, false, not, ◌||◌, ◌⊎◌, List, ℕ, ◌+◌, ◌-◌, ◌≤◌, ◌<◌, get_or, T, Option, Some, None}
 use Rattle.chart.specs.declared.chart.Chart.{Chart}
 use Rattle.std.proofs.Common.{sym, subst, ap, ◌∙◌, inl, inr, arith}
 use Rattle.std.proofs.Props.{props}
@@ -26,26 +26,13 @@ use Rattle.bound.specs.declared.charging.Charged.{Charged}
 use Rattle.chart.specs.Chart.{ShowsSheet, ASheet}
 use Rattle.keeping.specs.Sets.{decisions_of, Apart, sets_of}
 use Rattle.keeping.specs.Keeping.{KeptMore}
-use Rattle.settle.specs.Settled.{left_with, SettledAs, StepAs, AfterForcing}
+use Rattle.settle.specs.Settled.{left_with, NothingWorth, SettledAs, GoesOn, AfterForcing}
 use Rattle.keeping.specs.laws.Shown.{forced_shown, option_stands, ordering_stands}
 use Rattle.keeping.specs.laws.Apart.{forced_apart}
-use Rattle.settle.specs.laws.Forcing.{size, fine, over_settles, forced_settles}
+use Rattle.settle.specs.laws.Forcing.{size, fine, forced_are_left}
 use Rattle.settle.specs.laws.Keepable.{no_contradiction_here, charged_limit, keeps_keepable}
-use Rattle.keeping.specs.declared.keeping.More.{More}
 use Rattle.settle.specs.declared.settling.Settled.{Settled}
-use Rattle.settle.specs.declared.settling.Step.{Step}
-
--- An end is settled: there is no other round.
-pub step_ended : (chart : Chart) (want : ℕ) (g : Given) (x : Step) → x.more ≡ false → SettledAs chart want g x.settled → StepAs chart want g x
-step_ended chart want g x e w = record { settled = λ _. w; apart = λ q. absurd (never q); fewer = λ q. absurd (never q); reduces = λ q. absurd (never q) }
-  where
-    never : x.more ≡ true → ⊥
-    never q = subst T (sym q ∙ e) tt
-
-pub step_forced : (chart : Chart) (want : ℕ) (g : Given) (apart : Apart chart g) (f : Forced) (by : ForcedBy chart g f)
-    (h : Half) (half : HalfDecidedAs chart f h) (e : f.contradiction ≡ false) (left : Given) → left ≡ sets_of f → (x : Step) → x ≡ left_with left h false → StepAs chart want g x
-step_forced chart want g apart f by h half e left sets x is = subst (StepAs chart want g) (sym (is ∙ ap (λ z. left_with z h false) sets))
-    (step_ended chart want g (left_with (sets_of f) h false) refl (forced_settles chart want g apart f by h half e))
+use Rattle.settle.specs.declared.settling.Step.TheVariants.{Over, Done, Again}
 
 -- ---- after the forced decisions
 module _ (chart : Chart) (want : ℕ) (g : Given) (apart : Apart chart g) (f : Forced) (by : ForcedBy chart g f)
@@ -55,19 +42,18 @@ module _ (chart : Chart) (want : ℕ) (g : Given) (apart : Apart chart g) (f : F
   d = decisions_of chart g
 
   -- what is charged brings the limit below what is wanted
-  pub step_charged : (x : Step) → x.settled.over ≡ true → x.more ≡ false → h.upper < want + c.charged → StepAs chart want g x
-  step_charged x o q l = step_ended chart want g x q (over_settles chart want g apart f by x.settled o
-      (λ s sh r ok ag. let p = charged_limit chart want g apart f by h half e c bounded s sh r ok ag in omega arith))
+  pub charged_settles : h.upper < want + c.charged → NothingWorth chart want g
+  charged_settles l = λ s sh r ok ag. let p = charged_limit chart want g apart f by h half e c bounded s sh r ok ag in omega arith
 
   -- ---- items are kept besides
-  module _ (spare : ℕ) (k : More) (kept : KeptMore chart h after c.left spare (sets_of f) k)
+  module _ (spare : ℕ) (k : Given) (kept : KeptMore chart h after c.left spare (sets_of f) k)
       (low : want + c.charged ≤ h.upper) (es : spare ≡ h.upper - want - c.charged) where
     abbrev Kept_here : (s : Lines) → ShowsSheet s chart → Type 0
-    Kept_here s sh = Reduces (value_of s) (ConsistentRelaxation s) 0 want d (decisions_of chart k.given)
+    Kept_here s sh = Reduces (value_of s) (ConsistentRelaxation s) 0 want d (decisions_of chart k)
 
     kept_reduces : (s : Lines) (sh : ShowsSheet s chart) → Kept_here s sh
     kept_reduces s sh = reduces_keepable s sh.proper 0 d (size chart want g apart f by s sh)
-        (no_contradiction_here chart want g apart f by h half e c bounded s sh) want (decisions_of chart k.given)
+        (no_contradiction_here chart want g apart f by h half e c bounded s sh) want (decisions_of chart k)
         (keeps_keepable chart want g apart f by h half e c bounded after turn low spare es k kept s sh)
 
     -- an open slot is neither kept nor dropped
@@ -77,7 +63,7 @@ module _ (chart : Chart) (want : ℕ) (g : Given) (apart : Apart chart g) (f : F
     not_dropped true false o q t u = u
     not_dropped false false o q t u = u
 
-    kept_apart : Apart chart k.given
+    kept_apart : Apart chart k
     kept_apart = let was = forced_apart chart g apart f by e in record {
       options = λ j t u. option j (kept.option.only j t) (subst (λ z. T (has z j)) kept.dropped u);
       orderings = λ j t u. ordering j (kept.ordering.only j t) (subst (λ z. T (has z j)) kept.dropped_orderings u);
@@ -100,8 +86,8 @@ module _ (chart : Chart) (want : ℕ) (g : Given) (apart : Apart chart g) (f : F
         ordering j (inr (l, t, _)) u = not_dropped (has f.kept_orderings j) (has f.dropped_orderings j) (has h.open_orderings j) (holds_at half.orderings j l) t u
 
     -- where one is, fewer are open
-    fewer_on : ASheet chart → k.more ≡ true → open_items (decisions_of chart k.given) < open_items d
-    fewer_on a q = go kept.more_options kept.more_orderings (sym kept.more ∙ q) kept.option.one kept.ordering.one
+    fewer_on : ASheet chart → open_items (decisions_of chart k) < open_items d
+    fewer_on a = go kept.more
       where
         s : Lines
         s = a.lines
@@ -110,10 +96,10 @@ module _ (chart : Chart) (want : ℕ) (g : Given) (apart : Apart chart g) (f : F
         sh = a.show
 
         -- at a place where the list keeps what was open
-        closes : (p : ℕ) → p < items a.lines → get_or (decisions_of chart k.given) p Open ≡ Kept → T (is_open (get_or (decisions_of chart (sets_of f)) p Open)) → open_items (decisions_of chart k.given) < open_items d
+        closes : (p : ℕ) → p < items a.lines → get_or (decisions_of chart k) p Open ≡ Kept → T (is_open (get_or (decisions_of chart (sets_of f)) p Open)) → open_items (decisions_of chart k) < open_items d
         closes p l x o =
             let a = size chart want g apart f by s sh in
-            let z = keeping_closes_one s sh.proper 0 d a (no_contradiction_here chart want g apart f by h half e c bounded s sh) want (decisions_of chart k.given)
+            let z = keeping_closes_one s sh.proper 0 d a (no_contradiction_here chart want g apart f by h half e c bounded s sh) want (decisions_of chart k)
             (keeps_keepable chart want g apart f by h half e c bounded after turn low spare es k kept s sh) p l
             (λ y. subst (λ z. T (is_open z)) (ap (λ z. get_or z p Open) (sym (forced_shown chart s sh g apart f by)) ∙ sym y ∙ x) o) in
             let y = forcing_opens_nothing s sh.proper d a (fine chart want g apart f by s sh e) in omega arith
@@ -127,74 +113,52 @@ module _ (chart : Chart) (want : ℕ) (g : Given) (apart : Apart chart g) (f : F
         open_two false true o x t = absurd (subst T x t)
         open_two false false o x t = tt
 
-        option : (j : ℕ) × (j < chart.option_count) × T (has h.open_options j) × T (has k.given.kept j) → open_items (decisions_of chart k.given) < open_items d
-        option (j, l, t, u) = closes j (let a = sh.options in omega arith) (option_stands chart k.given j l ∙ kept_two (has k.given.kept j) (has k.given.dropped j) u)
+        option : (j : ℕ) × (j < chart.option_count) × T (has h.open_options j) × T (has k.kept j) → open_items (decisions_of chart k) < open_items d
+        option (j, l, t, u) = closes j (let a = sh.options in omega arith) (option_stands chart k j l ∙ kept_two (has k.kept j) (has k.dropped j) u)
             (subst (λ z. T (is_open z)) (sym (option_stands chart (sets_of f) j l)) (open_two (has f.kept j) (has f.dropped j) (has h.open_options j) (holds_at half.options j l) t))
 
-        ordering : (j : ℕ) × (j < chart.ordering_count) × T (has h.open_orderings j) × T (has k.given.kept_orderings j) → open_items (decisions_of chart k.given) < open_items d
-        ordering (j, l, t, u) = closes (chart.option_count + j) (let a = sh.options in let z = sh.orderings in omega arith) (ordering_stands chart k.given j l ∙ kept_two (has k.given.kept_orderings j) (has k.given.dropped_orderings j) u)
+        ordering : (j : ℕ) × (j < chart.ordering_count) × T (has h.open_orderings j) × T (has k.kept_orderings j) → open_items (decisions_of chart k) < open_items d
+        ordering (j, l, t, u) = closes (chart.option_count + j) (let a = sh.options in let z = sh.orderings in omega arith) (ordering_stands chart k j l ∙ kept_two (has k.kept_orderings j) (has k.dropped_orderings j) u)
             (subst (λ z. T (is_open z)) (sym (ordering_stands chart (sets_of f) j l)) (open_two (has f.kept_orderings j) (has f.dropped_orderings j) (has h.open_orderings j) (holds_at half.orderings j l) t))
 
-        go : (a b : Bool) → (a || b) ≡ true → (a ≡ true → (j : ℕ) × (j < chart.option_count) × T (has h.open_options j) × T (has k.given.kept j)) → (b ≡ true → (j : ℕ) × (j < chart.ordering_count) × T (has h.open_orderings j) × T (has k.given.kept_orderings j))
-            → open_items (decisions_of chart k.given) < open_items d
-        go true b x p q = option (p refl)
-        go false true x p q = ordering (q refl)
-        go false false x p q = absurd (subst T (sym x) tt)
+        go : (k.kept ≢ f.kept) ⊎ (k.kept_orderings ≢ f.kept_orderings) → open_items (decisions_of chart k) < open_items d
+        go (inl q) = option (kept.option.one q)
+        go (inr q) = ordering (kept.ordering.one q)
 
-    kept_fewer : k.more ≡ true → open_items (decisions_of chart k.given) < open_items d
-    kept_fewer q = ∥∥₁_elim chart.of_a_sheet (hlevel props) (λ a. fewer_on a q)
-
-    -- where none is, the forced decisions are left
-    nothing_moved : k.more ≡ false → k.given ≡ sets_of f
-    nothing_moved q = go kept.more_options kept.more_orderings (sym kept.more ∙ q) kept.option.none kept.ordering.none
-      where
-        go : (a b : Bool) → (a || b) ≡ false → (a ≡ false → k.given.kept ≡ f.kept) → (b ≡ false → k.given.kept_orderings ≡ f.kept_orderings) → k.given ≡ sets_of f
-        go true b x p q = absurd (subst T x tt)
-        go false true x p q = absurd (subst T x tt)
-        go false false x p q = λ i. record { kept = p refl i; dropped = kept.dropped i; kept_orderings = q refl i; dropped_orderings = kept.dropped_orderings i }
-
-    pub step_kept : StepAs chart want g (left_with k.given h k.more)
-    step_kept = record {
-      settled = λ q. subst (λ z. SettledAs chart want g (left_with z h false).settled) (sym (nothing_moved q))
-          (forced_settles chart want g apart f by h half e);
-      apart = λ _. kept_apart;
-      fewer = kept_fewer;
-      reduces = λ _ s sh. kept_reduces s sh;
-    }
+    pub kept_goes_on : GoesOn chart want g k
+    kept_goes_on = record { apart = kept_apart; fewer = ∥∥₁_elim chart.of_a_sheet (hlevel props) fewer_on; reduces = kept_reduces }
 
 -- ---- whatever decisions these are forced by
 module _ (chart : Chart) (after : List ℕ) (want : ℕ) (f : Forced) (h : Half) (c : Charged) (turn : C.Transposed h.known chart.option_count chart.option_count after)
     (bounded : BoundedAs chart h.known h.open_options h.open_orderings c) where
-  pub over_after_forcing : (x : Step) → x.settled.over ≡ true → x.more ≡ false → h.upper < want + c.charged → AfterForcing chart want f h x
-  over_after_forcing x o q l = record { step = λ g apart by half e. step_charged chart want g apart f by h half e after turn c bounded x o q l }
+  pub over_after_forcing : h.upper < want + c.charged → AfterForcing chart want f h Over
+  over_after_forcing l = record { step = λ g apart by half e. charged_settles chart want g apart f by h half e after turn c bounded l }
 
-  pub kept_after_forcing : (spare : ℕ) (g : Given) → g ≡ sets_of f → (k : More) → KeptMore chart h after c.left spare g k
-      → want + c.charged ≤ h.upper → spare ≡ h.upper - want - c.charged → (x : Step) → x ≡ left_with k.given h k.more → AfterForcing chart want f h x
-  kept_after_forcing spare g sets k kept low es x is = record {
-    step = λ g apart by half e. subst (StepAs chart want g) (sym is)
-        (step_kept chart want g apart f by h half e after turn c bounded spare k (subst (λ z. KeptMore chart h after c.left spare z k) sets kept) low es);
+  pub kept_after_forcing : (spare : ℕ) (g : Given) → g ≡ sets_of f → (k : Given) → KeptMore chart h after c.left spare g k → want + c.charged ≤ h.upper → spare ≡ h.upper - want - c.charged → AfterForcing chart want f h (Again k)
+  kept_after_forcing spare g sets k kept low es = record {
+    step = λ g' apart by half e. kept_goes_on chart want g' apart f by h half e after turn c bounded spare k (subst (λ z. KeptMore chart h after c.left spare z k) sets kept) low es;
   }
 
+pub left_after_forcing : {chart : Chart} {want : ℕ} {f : Forced} {h : Half} (g : Given) → g ≡ sets_of f → (x : Settled) → x ≡ left_with g h → AfterForcing chart want f h (Done x)
+left_after_forcing {chart} {want} {f} {h} g sets x is = record { step = λ g' apart by half e. forced_are_left chart want g' apart f by h half e g sets x is }
+
 -- ---- round after round
-pub settles_then : (chart : Chart) (want : ℕ) (g : Given) (x : Step) → StepAs chart want g x → x.more ≡ true
-    → (r : Settled) → SettledAs chart want x.settled.given r → SettledAs chart want g r
-settles_then chart want g x step more r w = record {
-  over = λ q s sh c ok ag. over s sh q c ((step.reduces more s sh).to c ok ag);
-  left = λ q. let l = w.left q in record {
+pub settles_then : {chart : Chart} {want : ℕ} {g more : Given} → GoesOn chart want g more → (x : Option Settled) → SettledAs chart want more x → SettledAs chart want g x
+settles_then {chart} {want} {g} {more} step None w = record { over = λ s sh c ok ag. over s sh c ((step.reduces s sh).to c ok ag); left = tt }
+  where
+    over : (s : Lines) → ShowsSheet s chart → (c : List Bool) → (value_of s c < want + 0) ⊎ Above (value_of s) (ConsistentRelaxation s) 0 (decisions_of chart more) c → value_of s c < want
+    over s sh c (inl l) = omega arith
+    over s sh c (inr a) = let p = w.over s sh a.other a.allowed a.agrees in let z = a.value_of in omega arith
+settles_then {chart} {want} {g} {more} step (Some x) w = let l = w.left in record {
+  over = tt;
+  left = record {
     apart = l.apart;
     options = l.options;
     orderings = l.orderings;
-    no_more_open = (let a = l.no_more_open in let b = step.fewer more in omega arith);
+    no_more_open = (let a = l.no_more_open in let b = step.fewer in omega arith);
     small = l.small;
-    reduces = λ s sh. reduces_then (value_of s) (ConsistentRelaxation s) 0 want (decisions_of chart g) (decisions_of chart x.settled.given) (decisions_of chart r.given) (step.reduces more s sh) (l.reduces s sh);
+    reduces = λ s sh. reduces_then (value_of s) (ConsistentRelaxation s) 0 want (decisions_of chart g) (decisions_of chart more) (decisions_of chart x.given) (step.reduces s sh) (l.reduces s sh);
     consistent = l.consistent;
     worth = l.worth;
   };
 }
-  where
-    over : (s : Lines) → ShowsSheet s chart → r.over ≡ true → (c : List Bool) → (value_of s c < want + 0) ⊎ Above (value_of s) (ConsistentRelaxation s) 0 (decisions_of chart x.settled.given) c → value_of s c < want
-    over s sh q c (inl l) = omega arith
-    over s sh q c (inr a) = let p = w.over q s sh a.other a.allowed a.agrees in let z = a.value_of in omega arith
-
-pub step_falls : (chart : Chart) (want : ℕ) (g : Given) (x : Step) → StepAs chart want g x → x.more ≡ true → (t : ℕ) → open_items (decisions_of chart g) ≡ t → open_items (decisions_of chart x.settled.given) < t
-step_falls chart want g x step more t q = let a = step.fewer more in omega arith

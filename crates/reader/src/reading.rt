@@ -59,6 +59,7 @@ fn read_trailed(s: &[u8], last: LastLine, numbers: Numbers) -> Reading
 }
 
 // Reads a sheet: its record, or the first refusal with an all-zero record.
+#[tactic(auto, using(lines::proofs::LineLaws::to_end), unfolding(crate::specs::Read::read_sheet))]
 pub fn read(text: &[u8]) -> Reading
     ensures { result ≡ read_sheet text.now }
 {

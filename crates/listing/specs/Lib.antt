@@ -1,3 +1,2 @@
-pub mod Appended
 pub mod Listing
 pub mod laws

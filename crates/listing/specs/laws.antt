@@ -1,3 +1,2 @@
-pub mod Appended
 pub mod Each
 pub mod Length

@@ -1,5 +1,5 @@
 // The S, D and R lines of a report, printed on a page.
-// For the crates above: the page must have room for what is printed, and the arrays handed in as many entries as are counted.
+// For the crates above: the page must have room for what is printed, and the lists handed in as many entries as are counted.
 #![tactic(auto)]
 
 mod lists;

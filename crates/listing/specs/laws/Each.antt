@@ -1,13 +1,13 @@
 -- Lines one after the other: one more, some fewer, the same by another rule.
 use Prim.Native.Nat.{ℕ, zero, suc, ◌+◌, ◌-◌, ◌≤◌, ◌<◌}
-use Rattle.std.specs.Prelude.{◌≡◌, refl, Bool, true, false, List, []}
+use Rattle.std.specs.Prelude.{◌≡◌, refl, Bool, true, List, []}
 use Rattle.std.proofs.Math.Path.{ap}
-use Rattle.std.proofs.Common.{subst, ◌∙◌, append-nil, arith, le_antisymm, add-one}
+use Rattle.std.proofs.Common.{◌∙◌, append-nil, arith, add-one}
 use Rattle.std.proofs.Math.ListN.{length, length-append}
-use Rattle.print.specs.Put.{put}
+use Rattle.print.specs.Page.{Room, Printed}
+use Rattle.print.specs.declared.page.Page.{Page}
+use Rattle.print.proofs.PageLaws.{printed_nothing, printed_both, printed_size}
 use Rattle.listing.specs.Listing.{each, unless}
-use Rattle.listing.specs.Appended.{Room, Appended}
-use Rattle.listing.specs.laws.Appended.{appended_nothing, appended_both, appended_put}
 
 pub each_same : (n : ℕ) (f g : ℕ → List ℕ) → ((i : ℕ) → i < n → f i ≡ g i) → each n f ≡ each n g
 unfolding each
@@ -31,26 +31,20 @@ each_grows (suc k) i f =
 
 -- ---- a line that is printed unless something holds
 module _ (b : Bool) (line : List ℕ) where
-  pub printed_nothing : (page : List ℕ) (at : ℕ) → b ≡ true → Appended page page at at (unless b line)
-  printed_nothing page at e = rw e (appended_nothing page at)
-
-  pub room_for_line : {page : List ℕ} {at : ℕ} → b ≡ false → Room page at (unless b line) → Room page at line
-  room_for_line {page} {at} e room = subst (λ x. Room page at (unless x line)) e room
-
-  pub printed_line : {before after : List ℕ} {at next : ℕ} → b ≡ false → Room before at (unless b line) → (after ≡ put at line before) × (next ≡ at + length line) → Appended before after at next (unless b line)
-  printed_line e room x = let shown = appended_put line (room_for_line e room) x in rw e shown
+  pub skipped_line : {page : Page} → b ≡ true → Printed page page (unless b line)
+  skipped_line {page} e = rw e (printed_nothing page)
 
 -- ---- a loop that prints line i at turn i
 module _ (f : ℕ → List ℕ) where
-  pub printed_none : (page : List ℕ) (at : ℕ) → Appended page page at at (each 0 f)
+  pub printed_none : (page : Page) → Printed page page (each 0 f)
   unfolding each
-  printed_none page at = appended_nothing page at
+  printed_none page = printed_nothing page
 
-  pub printed_one_more : {before between after : List ℕ} {at p next i : ℕ} → Appended before between at p (each i f) → Appended between after p next (f i) → Appended before after at next (each (i + 1) f)
+  pub printed_one_more : {before between after : Page} {i : ℕ} → Printed before between (each i f) → Printed between after (f i) → Printed before after (each (i + 1) f)
   unfolding each
-  printed_one_more {i = i} x y = rw (add-one i) (appended_both x y)
+  printed_one_more {i = i} x y = rw (add-one i) (printed_both x y)
 
-  pub room_for_one_more : {before between : List ℕ} {at p : ℕ} (n i : ℕ) → i < n → Room before at (each n f) → Appended before between at p (each i f) → Room between p (f i)
+  pub room_for_one_more : {before between : Page} (n i : ℕ) → i < n → Room before (each n f) → Printed before between (each i f) → Room between (f i)
   unfolding each
   room_for_one_more n i l room x = record {
     fits =
@@ -58,12 +52,9 @@ module _ (f : ℕ → List ℕ) where
         let g = each_grows d.0 (suc i) f in
         let e : length (each n f) ≡ length (each (suc i + d.0) f) = ap (λ z. length (each z f)) d.1 in
         let a = length-append (each i f) (f i) in
-        let r = room.fits in let s = x.size in let t = x.ends in
+        let r = room.fits in let s = printed_size x in let t = x.ends in
         omega arith;
   }
     where
       below : (n j : ℕ) → j ≤ n → (k : ℕ) × (n ≡ j + k)
       below n j h = (n - j, omega arith)
-
-  pub printed_all : {before after : List ℕ} {at next : ℕ} (n i : ℕ) → i ≤ n → n ≤ i → Appended before after at next (each i f) → Appended before after at next (each n f)
-  printed_all {before} {after} {at} {next} n i a b x = subst (λ z. Appended before after at next (each z f)) (le_antisymm a b) x

@@ -1,3 +1,4 @@
 pub mod Bits
+pub mod Ones
 pub mod Sets
 pub mod laws

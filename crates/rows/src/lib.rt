@@ -3,6 +3,7 @@
 #![tactic(auto, unfolding(crate::specs::Bits::has, crate::specs::Bits::with, crate::specs::Bits::with_if))]
 
 mod chosen;
+mod ones;
 mod options;
 mod tests;
 
@@ -10,6 +11,7 @@ ghost use Rattle.std.specs.Prelude.{◌≡◌, ℕ, ◌<◌};
 ghost use Rattle.rows.specs.Bits.{has, with, with_if};
 
 pub use chosen::set_where;
+pub use ones::Ones;
 pub use options::{join, join_if, meet, turn};
 pub use tests::{both, differ, either, neither, opposite};
 

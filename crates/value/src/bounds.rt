@@ -44,9 +44,8 @@ pub fn bounds_of(chart: &Chart, tolerance: u32) -> Bounds
             ceiling: best,
         };
     }
-    let limit = whole_limit(chart);
     Bounds {
         floor: 0,
-        ceiling: limit,
+        ceiling: whole_limit(chart),
     }
 }

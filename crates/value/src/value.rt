@@ -1,5 +1,5 @@
 // The best value alone, taking up open items in any order.
-ghost use Rattle.std.specs.Prelude.{◌≡◌, ◌≤◌, max};
+ghost use Rattle.std.specs.Prelude.{◌≤◌};
 ghost use Rattle.half.specs.Weights.{largest_sum};
 ghost use Rattle.keeping.specs.Sets.{Apart};
 ghost use Rattle.value.specs.Value.{ValuedAs, Reached};
@@ -11,26 +11,18 @@ use keeping::{drop_item, keep_item};
 use picks::pick;
 use settle::settle;
 
-pub fn greater(a: u32, b: u32) -> u32
-    ensures { result ≡ max a b }
-{
-    if a < b { b } else { a }
-}
-
 // One dive: of the open items the heaviest is kept, again and again; what is kept in the end is a consistent relaxation, and a first value.
 pub fn dive(chart: &Chart, g: Given) -> u32
     requires { Apart chart.now g }
     ensures { Reached chart.now result }
 {
-    let x = settle(chart, g, 0);
-    if x.over {
+    let Some(x) = settle(chart, g, 0) else {
         return 0;
-    }
+    };
     let Some(i) = heaviest_item(chart, x.open_options, x.open_orderings) else {
         return x.lower;
     };
-    let kept = keep_item(x.given, i);
-    dive(chart, kept)
+    dive(chart, keep_item(x.given, i))
 }
 
 // The greater of the floor and the best value among what agrees: an open item is kept, and after that dropped, from what the first came to.
@@ -39,15 +31,12 @@ pub fn best_value(chart: &Chart, back: &[u32; 32], g: Given, floor: u32) -> u32
     requires { Apart chart.now g × (floor ≤ largest_sum) }
     ensures { ValuedAs chart.now floor g result }
 {
-    let x = settle(chart, g, floor + 1);
-    if x.over {
+    let Some(x) = settle(chart, g, floor + 1) else {
         return floor;
-    }
-    let Some(i) = pick(chart, back, x.open_options, x.open_orderings) else {
-        return greater(floor, x.lower);
     };
-    let kept = keep_item(x.given, i);
-    let w = best_value(chart, back, kept, floor);
-    let dropped = drop_item(x.given, i);
-    best_value(chart, back, dropped, w)
+    let Some(i) = pick(chart, back, x.open_options, x.open_orderings) else {
+        return floor.max(x.lower);
+    };
+    let kept = best_value(chart, back, keep_item(x.given, i), floor);
+    best_value(chart, back, drop_item(x.given, i), kept)
 }

@@ -15,7 +15,7 @@ use Rattle.half.specs.Weights.{largest_sum}
 use Rattle.given.specs.declared.sets.Given.{Given}
 use Rattle.chart.specs.Chart.{ShowsSheet}
 use Rattle.keeping.specs.Sets.{decisions_of, place, with_item_kept, with_item_dropped}
-use Rattle.settle.specs.Settled.{LeftOf, SettledAs}
+use Rattle.settle.specs.Settled.{LeftOf, NothingWorth}
 use Rattle.keeping.specs.laws.Shown.{item_kept_shown, item_dropped_shown}
 use Rattle.settle.specs.declared.settling.Settled.{Settled}
 use Rattle.picks.specs.Picked.{Picked}
@@ -28,12 +28,11 @@ module _ (chart : Chart) where
   pub reached_nought : Reached chart 0
   reached_nought = record { small = omega arith; reached = λ s sh. (none_kept (items s), dropping_all_is_consistent s, dropping_all_is_worth_nothing s) }
 
-  pub reached_kept : (want : ℕ) (g : Given) (x : Settled) → SettledAs chart want g x → x.over ≡ false → Reached chart x.lower
-  reached_kept want g x settled e = let left = settled.left e in
-      record { small = left.small; reached = λ s sh. (just_the_kept (decisions_of chart x.given), left.consistent s sh, left.worth s sh) }
+  pub reached_kept : (want : ℕ) (g : Given) (x : Settled) → LeftOf chart want g x → Reached chart x.lower
+  reached_kept want g x left = record { small = left.small; reached = λ s sh. (just_the_kept (decisions_of chart x.given), left.consistent s sh, left.worth s sh) }
 
 -- ---- the pass for the value
-module _ (chart : Chart) (floor : ℕ) (small : floor ≤ largest_sum) (g : Given) (x : Settled) (settled : SettledAs chart (floor + 1) g x) where
+module _ (chart : Chart) (floor : ℕ) (small : floor ≤ largest_sum) (g : Given) where
   abbrev n : ℕ
   n = chart.option_count
 
@@ -46,13 +45,10 @@ module _ (chart : Chart) (floor : ℕ) (small : floor ≤ largest_sum) (g : Give
   abbrev Promise : ℕ → Given → ℕ → Type 0
   Promise = ValuedAs chart
 
-  pub value_over : x.over ≡ true → Promise floor g floor
-  value_over e = record { small = small; valued = λ s sh stop. value_cut (value_of s) (ConsistentRelaxation s) stop floor d floor (λ r o a. let h = settled.over e s sh r o a in omega arith) (omega arith) }
+  pub value_over : NothingWorth chart (floor + 1) g → Promise floor g floor
+  value_over over = record { small = small; valued = λ s sh stop. value_cut (value_of s) (ConsistentRelaxation s) stop floor d floor (λ r o a. let h = over s sh r o a in omega arith) (omega arith) }
 
-  module _ (e : x.over ≡ false) where
-    left : LeftOf chart (floor + 1) g x
-    left = settled.left e
-
+  module _ (x : Settled) (left : LeftOf chart (floor + 1) g x) where
     of_left : (s : Lines) → ShowsSheet s chart → (stop w : ℕ) → Valued (value_of s) (ConsistentRelaxation s) stop floor (decisions_of chart x.given) w → Valued (value_of s) (ConsistentRelaxation s) stop floor d w
     of_left s sh stop w v = value_reduced (value_of s) (ConsistentRelaxation s) stop floor w d (decisions_of chart x.given)
         (subst (λ k. Reduces (value_of s) (ConsistentRelaxation s) 0 k d (decisions_of chart x.given)) (let q : floor + 1 ≡ suc floor = omega arith in q) (left.reduces s sh)) v

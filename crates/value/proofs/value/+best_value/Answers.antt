@@ -3,22 +3,20 @@ use Rattle.settle.specs.laws.Items.{kept_falls, kept_apart, dropped_falls, dropp
 use Rattle.value.specs.laws.Values.{value_at_leaf, value_at_split}
 use Rattle.value.proofs.value.+best_value.Goals as goal
 
-pub returns-in_default : goal.returns-in_default
-returns-in_default t c = value_at_leaf _ _ c.requires.1 _ _ c.settle-x.ensures c.if-x.false (rw c.in_default.is at c.pick.ensures) _ c.greater.ensures
+pub returns-in_default-pick : goal.returns-in_default-pick
+returns-in_default-pick t c = value_at_leaf _ _ c.requires.1 _ _ c.in-Some.ensures.left c.in_default-pick.ensures _ c.max.ensures
 
-pub best_value-w-requires : goal.best_value-w-requires
-best_value-w-requires t c =
-    let left = c.settle-x.ensures.left c.if-x.false in
-    let picked = rw c.in-Some.is at c.pick.ensures in
-    (kept_falls _ left _ picked _ c.keep_item-kept.ensures _ c.decreases, (kept_apart _ left _ picked _ c.keep_item-kept.ensures, c.requires.1))
+pub best_value-kept-requires : goal.best_value-kept-requires
+best_value-kept-requires t c =
+    let left = c.in-Some.ensures.left in
+    let picked = c.in-Some-pick.ensures in
+    (kept_falls _ left _ picked _ c.keep_item.ensures _ c.decreases, (kept_apart _ left _ picked _ c.keep_item.ensures, c.requires.1))
 
 pub best_value-requires : goal.best_value-requires
 best_value-requires t c =
-    let left = c.settle-x.ensures.left c.if-x.false in
-    let picked = rw c.in-Some.is at c.pick.ensures in
-    (dropped_falls _ left _ picked _ c.drop_item-dropped.ensures _ c.decreases, (dropped_apart _ left _ picked _ c.drop_item-dropped.ensures, c.best_value-w.ensures.small))
+    let left = c.in-Some.ensures.left in
+    let picked = c.in-Some-pick.ensures in
+    (dropped_falls _ left _ picked _ c.drop_item.ensures _ c.decreases, (dropped_apart _ left _ picked _ c.drop_item.ensures, c.best_value-kept.ensures.small))
 
 pub returns : goal.returns
-returns t c =
-    let picked = rw c.in-Some.is at c.pick.ensures in
-    value_at_split _ _ c.requires.1 _ _ c.settle-x.ensures c.if-x.false _ picked _ _ c.keep_item-kept.ensures c.drop_item-dropped.ensures _ _ c.best_value-w.ensures c.best_value.ensures
+returns t c = value_at_split _ _ c.requires.1 _ _ c.in-Some.ensures.left _ c.in-Some-pick.ensures _ _ c.keep_item.ensures c.drop_item.ensures _ _ c.best_value-kept.ensures c.best_value.ensures

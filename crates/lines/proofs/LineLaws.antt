@@ -23,33 +23,16 @@ use Rattle.sheet.specs.declared.judged.Judged.{Judged}
 use Rattle.sheet.specs.declared.judged.Judged.TheVariants.{Fine, Broken}
 use Rattle.shape.specs.declared.shape.Section.{Section}
 use Rattle.shape.specs.declared.shape.Section.TheVariants.{Catalogue, Options, Orderings}
-
-zero_one : ◌≡◌ {A = ℕ} 0 1 → ⊥
-zero_one e = omega arith
+use Rattle.std.proofs.lemmas.Bool.Decides.{nat_tests}
 
 pub in_catalogue : (f u n : ℕ) → section_of f u n ≡ Catalogue → n < f
-in_catalogue f u n e = go (ltb n f) (ltb n u) refl e
-  where
-    go : (s t : Bool) → ltb n f ≡ s → cond s Catalogue (cond t Options Orderings) ≡ Catalogue → n < f
-    go true t p q = ltb-true n f p
-    go false true p q = absurd (zero_one (cc))
-    go false false p q = absurd (zero_one (cc))
+in_catalogue f u n e = grind (arith, nat_tests)
 
 pub in_options : (f u n : ℕ) → section_of f u n ≡ Options → (f ≤ n) × (n < u)
-in_options f u n e = go (ltb n f) (ltb n u) refl refl e
-  where
-    go : (s t : Bool) → ltb n f ≡ s → ltb n u ≡ t → cond s Catalogue (cond t Options Orderings) ≡ Options → (f ≤ n) × (n < u)
-    go true t p q e = absurd (zero_one (cc))
-    go false true p q e = (ltb-false n f p, ltb-true n u q)
-    go false false p q e = absurd (zero_one (cc))
+in_options f u n e = grind (arith, nat_tests)
 
 pub in_orderings : (f u n : ℕ) → section_of f u n ≡ Orderings → (f ≤ n) × (u ≤ n)
-in_orderings f u n e = go (ltb n f) (ltb n u) refl refl e
-  where
-    go : (s t : Bool) → ltb n f ≡ s → ltb n u ≡ t → cond s Catalogue (cond t Options Orderings) ≡ Orderings → (f ≤ n) × (u ≤ n)
-    go true t p q e = absurd (zero_one (cc))
-    go false true p q e = absurd (zero_one (cc))
-    go false false p q e = (ltb-false n f p, ltb-false n u q)
+in_orderings f u n e = grind (arith, nat_tests)
 
 -- a part of a list that goes to its end
 pub to_end : (at : ℕ) (l : List ℕ) → take (length l - at) (drop at l) ≡ drop at l

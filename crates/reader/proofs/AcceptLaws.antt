@@ -37,13 +37,13 @@ use Rattle.shape.specs.declared.shape.State.TheVariants.{Start, Done}
 use Rattle.shape.proofs.GrammarLaws.{accepts}
 use Rattle.shape.proofs.LineEndLaws.{trailer_lines, done_of}
 use Rattle.reader.proofs.ReadLaws.{good_trailer}
-use Rattle.shape.proofs.SplitLaws.{zero_one, split, shaped_line_length, whole_lines, whole_append, whole_line, whole_none, last_line_after_whole}
+use Rattle.shape.proofs.SplitLaws.{split, shaped_line_length, whole_lines, whole_append, whole_line, whole_none, last_line_after_whole}
 use Rattle.reader.proofs.StoredLaws.{sized_lengths, stored_lengths, text_for, line_as_text, same_line, other_line}
 
 pub not_refused : (k : Refusal) (p : Place) (s : Sheet) → refused p k ≡ accepted s → ⊥
 not_refused k p s e =
     let q : Refused p k ≡ Accepted = ap (λ (o : Reading). o.answer) e in
-    zero_one (cc)
+    cc
 
 pub same_counts : (f u : ℕ) (sec : Section) (n c : ℕ) (h : Numbers) (s : Sheet)
     → ((stored_line f u sec n c h s).catalogue_lines ≡ s.catalogue_lines) × (((stored_line f u sec n c h s).option_count ≡ s.option_count) × ((stored_line f u sec n c h s).ordering_count ≡ s.ordering_count))
@@ -92,7 +92,7 @@ main f u (suc k) n l tr S s L a b c d one sc t cl e =
     let z = split f u n l 1 Start k sc t in
     let x = z.line in
     let y = z.rest in
-    let ns : Start ≡ Done → ⊥ = λ p. zero_one (cc) in
+    let ns : Start ≡ Done → ⊥ = λ p. cc in
     let w : l ++ tr ≡ x ++ (y ++ tr) = ap (λ (q : List ℕ). q ++ tr) z.whole ∙ append_assoc x y tr in
     let h = numbers_of (x ++ (y ++ tr)) in
     let c₀ = get_or (x ++ (y ++ tr)) 0 0 in

@@ -11,12 +11,11 @@ use Rattle.sheet.specs.declared.sheet.Sheet.{Sheet}
 use Rattle.shape.specs.declared.scan.Scanned.TheVariants.{Clean}
 use Rattle.shape.specs.declared.shape.Section.{Section}
 use Rattle.shape.specs.declared.shape.State.TheVariants.{Start, Done}
-use Rattle.shape.proofs.SplitLaws.{zero_one}
 use Rattle.reader.proofs.BodyLaws.{line_of, body_text}
 use Rattle.shape.proofs.PassOverLaws.{scan_over, ends_over}
 
 fresh : Start ≡ Done → ⊥
-fresh e = zero_one (cc)
+fresh e = cc
 
 -- every one of k lines from line n on is well shaped
 abbrev pub Shaped : ℕ → ℕ → ℕ → ℕ → Sheet → Type 0

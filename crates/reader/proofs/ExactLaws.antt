@@ -3,7 +3,6 @@ use Prim.Native.Nat.{ℕ}
 use mathlib.Core.Path.{◌≡◌, refl, sym, ◌∙◌}
 use mathlib.Core.Bool.{Bool, true, false}
 use mathlib.Core.List.{List}
-use Rattle.shape.proofs.SplitLaws.{zero_one}
 use Rattle.sheet.specs.IsRecorded.{is_recorded}
 use Rattle.sheet.specs.Recorded.{Recorded, Lengths}
 use Rattle.sheet.specs.Text.{text_of}
@@ -40,7 +39,7 @@ pub fails_not_given : (s : Sheet) → is_recorded s ≡ false → NoSheetGives s
 unfolding NoSheetGives
 fails_not_given s e text d =
     let z : true ≡ false = sym (given_passes text s d) ∙ e in
-    zero_one (cc)
+    cc
 
 pub not_given_fails : (s : Sheet) → Lengths s → NoSheetGives s → is_recorded s ≡ false
 unfolding NoSheetGives

@@ -24,7 +24,7 @@ use Rattle.shape.specs.declared.shape.Section.{Section}
 use Rattle.shape.specs.declared.shape.State.TheVariants.{Start}
 use Rattle.shape.proofs.GrammarLaws as grammar
 use Rattle.shape.proofs.LineEndLaws.{run_line_ends, line_ends_append}
-use Rattle.shape.proofs.SplitLaws.{zero_one, shaped_line_length}
+use Rattle.shape.proofs.SplitLaws.{shaped_line_length}
 
 tail_of : {a b : ℕ} {l r : List ℕ} → a ∷ l ≡ b ∷ r → l ≡ r
 tail_of e = cc
@@ -77,7 +77,7 @@ not_both : (sec : Section) (l x r : List ℕ) (k b : ℕ) → MisshapenAt sec l 
 not_both sec l x r k b B e n = go (ltb (length B.front) (length x)) refl
   where
     one_ten : line_ends x ≡ 1
-    one_ten = run_line_ends sec x Start (λ p. zero_one (cc)) (grammar.accepted sec x n)
+    one_ten = run_line_ends sec x Start (λ p. cc) (grammar.accepted sec x n)
 
     go : (s : Bool) → ltb (length B.front) (length x) ≡ s → ⊥
     go true p = not_further sec l x r k b B e ([], subst (λ (y : List ℕ). Line sec y) (sym (append-nil x)) n) (ltb-true _ _ p)
@@ -88,8 +88,8 @@ not_both sec l x r k b B e n = go (ltb (length B.front) (length x)) refl
 
 same_rest : (sec : Section) (l x r x' r' : List ℕ) → l ≡ x ++ r → Line sec x → l ≡ x' ++ r' → Line sec x' → r ≡ r'
 same_rest sec l x r x' r' e n e' n' =
-    let a : line_length l ≡ length x = ap line_length e ∙ shaped_line_length sec x r Start (λ p. zero_one (cc)) (grammar.accepted sec x n) in
-    let b : line_length l ≡ length x' = ap line_length e' ∙ shaped_line_length sec x' r' Start (λ p. zero_one (cc)) (grammar.accepted sec x' n') in
+    let a : line_length l ≡ length x = ap line_length e ∙ shaped_line_length sec x r Start (λ p. cc) (grammar.accepted sec x n) in
+    let b : line_length l ≡ length x' = ap line_length e' ∙ shaped_line_length sec x' r' Start (λ p. cc) (grammar.accepted sec x' n') in
     sym (drop-append_seam x r) ∙ ap (λ (y : List ℕ). drop (length x) y) (sym e) ∙ ap (λ (i : ℕ). drop i l) (sym a ∙ b)
     ∙ ap (λ (y : List ℕ). drop (length x') y) e' ∙ drop-append_seam x' r'
 
@@ -106,10 +106,10 @@ one_verdict {n = n} (broken {c = c} {why = k} x r e m j) (broken {c = c'} {why =
     λ i. refused_at (p i) n (q i)
 one_verdict (broken {c = c} {why = k} x r e m j) (next x' r' e' m' j' v) =
     let z : Broken k c ≡ Fine = sym j ∙ j' in
-    absurd (zero_one (cc))
+    cc
 one_verdict {f = f} {u = u} {n = n} {l = l} (next x r e m j v) (misshapen B) = absurd (not_both (section_of f u n) l x r _ _ B e m)
 one_verdict (next x r e m j v) (broken {c = c} {why = k} x' r' e' m' j') =
     let z : Fine ≡ Broken k c = sym j ∙ j' in
-    absurd (zero_one (cc))
+    cc
 one_verdict {f = f} {u = u} {n = n} {l = l} {o' = o'} (next {k = k} {s = s} x r e m j v) (next x' r' e' m' j' v') =
     one_verdict v (subst (λ (y : List ℕ). Verdict f u k (n + 1) y (stored_line f u (section_of f u n) n (get_or l 0 0) (numbers_of l) s) o') (sym (same_rest (section_of f u n) l x r x' r' e m e' m')) v')

@@ -7,6 +7,7 @@ use lib.Dec.{eqb, ltb}
 use borrow.Author.Tests.{eqb-true, ltb-false, not-false, le-ltb}
 use mathlib.Core.List.{List}
 use lib.ListN.{length, drop}
+use Rattle.std.proofs.lemmas.Bool.{or_parts}
 use Rattle.shape.specs.Number.{numbers_of}
 use Rattle.shape.specs.Trailer.{last_line, is_trailer}
 use Rattle.shape.specs.declared.number.Numbers.{Numbers}
@@ -16,18 +17,11 @@ use Rattle.sheet.specs.declared.answer.Refusal.TheVariants.{NoTrailer}
 use Rattle.lines.specs.Result.{refused_at}
 use Rattle.reader.specs.Read.{bad_trailer, read_trailed, read_sheet}
 
-zero_one : ◌≡◌ {A = ℕ} 0 1 → ⊥
-zero_one e = omega arith
-
-neither : (a b : Bool) → (a || b) ≡ false → (a ≡ false) × (b ≡ false)
-neither true b e = absurd (zero_one (cc))
-neither false b e = (refl, e)
-
 pub good_trailer : (f u t n : ℕ) → bad_trailer f u t n ≡ false → (1 ≤ f) × ((f ≤ u) × ((u ≤ t) × (t ≡ n)))
 good_trailer f u t n e =
-    let a = neither (ltb f 1) _ e in
-    let b = neither (ltb u f) _ a.1 in
-    let c = neither (ltb t u) _ b.1 in
+    let a = or_parts (ltb f 1) _ e in
+    let b = or_parts (ltb u f) _ a.1 in
+    let c = or_parts (ltb t u) _ b.1 in
     (ltb-false f 1 a.0, (ltb-false u f b.0, (ltb-false t u c.0, eqb-true t n (not-false (eqb t n) c.1))))
 
 pub read_on : (s : List ℕ) (e : LastLine) (h : Numbers) (r : Reading) → length s ≤ 8192 → e ≡ last_line s → is_trailer (drop e.start s) ≡ true

@@ -21,7 +21,6 @@ use Rattle.sheet.specs.declared.sheet.Sheet.{Sheet}
 use Rattle.shape.specs.declared.shape.Section.{Section}
 use Rattle.shape.specs.declared.shape.Section.TheVariants.{Catalogue, Options, Orderings, Trailer}
 use Rattle.lines.proofs.LineLaws.{in_catalogue, in_options, in_orderings}
-use Rattle.shape.proofs.SplitLaws.{zero_one}
 use Rattle.shape.proofs.TextLaws.{two, three}
 
 pub sized_lengths : (c o r : ℕ) → Lengths (sized c o r)
@@ -87,9 +86,9 @@ pub no_trailer : (f u n : ℕ) → section_of f u n ≡ Trailer → ⊥
 no_trailer f u n e = go (ltb n f) (ltb n u) e
   where
     go : (s t : Bool) → cond s Catalogue (cond t Options Orderings) ≡ Trailer → ⊥
-    go true t p = zero_one (cc)
-    go false true p = zero_one (cc)
-    go false false p = zero_one (cc)
+    go true t p = cc
+    go false true p = cc
+    go false false p = cc
 
 pub same_line : (f u n c : ℕ) (sec : Section) (h : Numbers) (s : Sheet) → Lengths s → WithinLimits f u n → 1 ≤ n → section_of f u n ≡ sec
     → entry_line f u sec n (stored_line f u sec n c h s) ≡ text_for sec c h

@@ -29,7 +29,7 @@ use Rattle.shape.proofs.GrammarLaws as grammar
 use Rattle.shape.proofs.NumberLaws.{cap, cap_top}
 use Rattle.reader.proofs.ReadLaws.{good_trailer, read_on, read_not}
 use Rattle.shape.proofs.LineEndLaws.{done_of}
-use Rattle.shape.proofs.SplitLaws.{zero_one, last_line_after_whole}
+use Rattle.shape.proofs.SplitLaws.{last_line_after_whole}
 use Rattle.reader.proofs.StoredLaws.{text_for, line_as_text}
 use Rattle.reader.proofs.VerdictLaws.{body_verdict}
 use Rattle.reader.proofs.OneVerdictLaws.{one_verdict}
@@ -101,7 +101,7 @@ front_ends (b ∷ front) r i start last n t h c = go (eqb b 10) refl c
         let m : n + suc (line_ends front) ≡ n + 1 + line_ends front = omega arith in
         (z.0, rw (far, m) z.1)
     go false e c ih =
-        let z = ih start last n false (λ q. absurd (zero_one (cc))) c in
+        let z = ih start last n false (λ q. cc) c in
         (z.0, rw far z.1)
 
 module _ (text front : List ℕ) (f u t : ℕ) (T : EndsInTrailer text front f u t) where
@@ -117,7 +117,7 @@ module _ (text front : List ℕ) (f u t : ℕ) (T : EndsInTrailer text front f u
   ends_found : found ≡ last_line text
   ends_found =
       let a = front_ends front end_line 0 0 0 0 true (λ q. refl) T.lines in
-      let b = ends_over Trailer [] end_line (0 + length front) (0 + length front) a.0 (0 + line_ends front) Start (λ q. zero_one (cc)) end_done in
+      let b = ends_over Trailer [] end_line (0 + length front) (0 + length front) a.0 (0 + line_ends front) Start (λ q. cc) end_done in
       let k : 0 + length front ≡ length front = omega arith in
       let m : 0 + line_ends front + 1 ≡ suc (line_ends front) = omega arith in
       sym (ap last_line T.whole ∙ a.1 ∙ ap (λ (l : List ℕ). last_line_from l (0 + length front) (0 + length front) a.0 (0 + line_ends front)) (sym (append-nil end_line)) ∙ b ∙ rw (k, m))
@@ -171,7 +171,7 @@ module _ (text front : List ℕ) (f u t : ℕ) (T : EndsInTrailer text front f u
           bad : GoodTrailer f u t n → ⊥
           bad g =
               let z : true ≡ false = sym ea ∙ ordered_good n g in
-              zero_one (cc)
+              cc
       by false true c d ea eb ec ed = too_many_catalogue_lines front f u t le T (good_trailer f u t n ea) (ltb-true 512 (f - 1) eb)
       by false false true d ea eb ec ed = too_many_options front f u t le T (good_trailer f u t n ea) (ltb-false 512 (f - 1) eb) (ltb-true 32 (u - f) ec)
       by false false false true ea eb ec ed =
@@ -209,7 +209,7 @@ no_trailer_there : (text : List ℕ) → is_trailer (drop (last_line text).start
 no_trailer_there text e front f u t T =
     let a : length front ≡ (last_line text).start = ap (λ (x : LastLine). x.start) (ends_found text front f u t T) in
     let z : true ≡ false = sym (end_is_trailer text front f u t T) ∙ ap (λ (i : ℕ). is_trailer (drop i text)) a ∙ e in
-    zero_one (cc)
+    cc
 
 too_long : (text : List ℕ) → 8192 < length text → refused_at SheetTooLong 0 0 ≡ read_sheet text
 unfolding read_sheet

@@ -34,7 +34,7 @@ use Rattle.shape.specs.declared.shape.State.{State}
 use Rattle.shape.specs.declared.shape.State.TheVariants.{Start, Gap, First, Digit, Done, Dead}
 use Rattle.shape.proofs.GrammarLaws.{accepts, run_append, alive_could_begin, could_begin_alive}
 use Rattle.shape.proofs.LineEndLaws.{alive_no_line_end, run_line_ends, line_ends_append, scan_line}
-use Rattle.shape.proofs.SplitLaws.{zero_one, split, shaped_line_length, whole_lines, whole_append, whole_line, whole_none}
+use Rattle.shape.proofs.SplitLaws.{split, shaped_line_length, whole_lines, whole_append, whole_line, whole_none}
 
 -- a well-shaped first line, with the same answer of the scan after it
 pub record SplitAt (f u n : ℕ) (l : List ℕ) (a : Scanned) : Type 0 where
@@ -54,7 +54,7 @@ tens_snoc q b e n =
 
 bad_or_split : (f u n k : ℕ) (l q : List ℕ) (st : State) (p : Place) (y : ℕ) → run (section_of f u n) Start q ≡ st → (st ≡ Dead → ⊥) → line_ends q ≡ 0 → k ≡ suc (length q)
     → misshapen_from f u l n k st ≡ At p y → (MisshapenAt (section_of f u n) (q ++ l) p.column y × (p.line ≡ n)) ⊎ SplitAt f u n (q ++ l) (At p y)
-bad_or_split f u n k [] q st p y er nd t ek e = absurd (zero_one (cc))
+bad_or_split f u n k [] q st p y er nd t ek e = cc
 bad_or_split f u n k (b ∷ l) q st p y er nd t ek e =
     go (next_state sec st b) refl (λ k q st er nd t ek e. bad_or_split f u n k l q st p y er nd t ek e) e
   where
@@ -81,10 +81,10 @@ bad_or_split f u n k (b ∷ l) q st p y er nd t ek e =
         (ih (k + 1) (q ++ (b ∷ [])) s (ran s d) p₂ (tens_snoc q b t (alive_no_line_end sec st s b d p₁ p₂)) (omega arith) e)
 
     go : (s : State) → next_state sec st b ≡ s → Ih → step_to n k b s (misshapen_from f u l) ≡ At p y → Goal
-    go Start d ih e = on Start d (λ x. zero_one (cc)) (λ x. zero_one (cc)) ih e
-    go (Gap x) d ih e = on (Gap x) d (λ x. zero_one (cc)) (λ x. zero_one (cc)) ih e
-    go (First x) d ih e = on (First x) d (λ x. zero_one (cc)) (λ x. zero_one (cc)) ih e
-    go (Digit x y) d ih e = on (Digit x y) d (λ x. zero_one (cc)) (λ x. zero_one (cc)) ih e
+    go Start d ih e = on Start d (λ x. cc) (λ x. cc) ih e
+    go (Gap x) d ih e = on (Gap x) d (λ x. cc) (λ x. cc) ih e
+    go (First x) d ih e = on (First x) d (λ x. cc) (λ x. cc) ih e
+    go (Digit x y) d ih e = on (Digit x y) d (λ x. cc) (λ x. cc) ih e
     go Done d ih e = inr (record { line = q ++ (b ∷ []); rest = l; whole = sym joined; shaped = ran Done d; same = e })
     go Dead d ih e =
         let c : p.column ≡ k = cc in
@@ -114,7 +114,7 @@ pub one_line : (f u : ℕ) (a : Answer) (j n : ℕ) (text x r : List ℕ) (S : S
     ≡ after_judged (judged_line f u (section_of f u n) n (numbers_of text) S) n (read_lines f u a j (n + 1) r (stored_line f u (section_of f u n) n (get_or text 0 0) (numbers_of text) S))
 unfolding read_lines
 one_line f u a j n text x r S w sh =
-    let e : line_length text ≡ length x = ap line_length w ∙ shaped_line_length (section_of f u n) x r Start (λ p. zero_one (cc)) sh in
+    let e : line_length text ≡ length x = ap line_length w ∙ shaped_line_length (section_of f u n) x r Start (λ p. cc) sh in
     let d : drop (line_length text) text ≡ r = ap (λ (i : ℕ). drop i text) e ∙ ap (λ (l : List ℕ). drop (length x) l) w ∙ drop-append_seam x r in
     ap (λ (l : List ℕ). after_judged (judged_line f u (section_of f u n) n (numbers_of text) S) n (read_lines f u a j (n + 1) l (stored_line f u (section_of f u n) n (get_or text 0 0) (numbers_of text) S))) d
 
@@ -156,7 +156,7 @@ module _ (f u : ℕ) (tr : List ℕ) where
       → Verdict f u (suc k) n (l ++ tr) S (passes f u (suc k) n (l ++ tr) S a)
   go_on k n l S a x y w sh e t cl ih =
       let sec = section_of f u n in
-      let ns : Start ≡ Done → ⊥ = λ p. zero_one (cc) in
+      let ns : Start ≡ Done → ⊥ = λ p. cc in
       let v : l ++ tr ≡ x ++ (y ++ tr) = ap (λ (z : List ℕ). z ++ tr) w ∙ append_assoc x y tr in
       let t₁ : line_ends x ≡ 1 = run_line_ends sec x Start ns sh in
       let t₂ : line_ends l ≡ line_ends x + line_ends y = ap line_ends w ∙ line_ends_append x y in
@@ -185,14 +185,14 @@ module _ (f u : ℕ) (tr : List ℕ) where
   verdict zero n l S Clean t cl e = over
   verdict zero n l S (At p y) t cl e =
       let z : misshapen_from f u [] n 1 Start ≡ At p y = subst (λ (x : List ℕ). misshapen_from f u x n 1 Start ≡ At p y) (whole_none l t cl) e in
-      absurd (zero_one (cc))
+      cc
   verdict (suc k) n l S Clean t cl e =
       let z = split f u n l 1 Start k e t in
       go_on k n l S Clean z.line z.rest z.whole z.shaped z.clean t cl (verdict k)
   verdict (suc k) n l S (At p y) t cl e =
       let ih = verdict k in
       ⊎_elim (λ w. bad_first k n l S p y w.0 w.1) (λ z. go_on k n l S (At p y) z.line z.rest z.whole z.shaped z.same t cl ih)
-      (bad_or_split f u n 1 l [] Start p y refl (λ x. zero_one (cc)) refl refl e)
+      (bad_or_split f u n 1 l [] Start p y refl (λ x. cc) refl refl e)
 
 -- what the reader answers about the lines before the trailer is the verdict line by line
 pub body_verdict : (f u t : ℕ) (l tr : List ℕ) (S : Sheet) → line_ends l ≡ t - 1 → whole_lines true l ≡ true

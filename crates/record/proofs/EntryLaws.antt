@@ -2,6 +2,7 @@
 use Rattle.std.specs.Prelude.{ℕ, suc, zero, ◌+◌, ◌≡◌, Bool, true, false, ◌&&◌, List, [], ◌∷◌, eqb, get_or, take}
 use Rattle.std.specs.List.{list_all, range_with_len}
 use Rattle.std.proofs.Common.{refl, ap, ◌∙◌}
+use Rattle.std.proofs.Math.Bool.{and_assoc}
 use Rattle.sheet.specs.Judge.{judge_catalogue_line, judge_option, judge_ordering}
 use Rattle.sheet.specs.IsRecorded.{is_fine, is_letter, entry_numbers, catalogue_fine, options_fine, orderings_fine, all_zero}
 
@@ -21,17 +22,13 @@ abbrev pub fine_ordering : List ℕ → List ℕ → List ℕ → List ℕ → �
 fine_ordering subscribed firsts seconds weights i =
     is_fine (judge_ordering (entry_numbers (get_or firsts i 0) (get_or seconds i 0) (get_or weights i 0)) subscribed (take i firsts) (take i seconds))
 
-and_again : (a b c : Bool) → ((a && b) && c) ≡ (a && (b && c))
-and_again true b c = refl
-and_again false b c = refl
-
 pub all_catalogue : (k i : ℕ) (letters befores afters : List ℕ)
     → list_all (fine_catalogue_entry letters befores afters) (range_with_len i k) ≡ catalogue_fine k i letters befores afters
 unfolding catalogue_fine
 all_catalogue zero i letters befores afters = refl
 all_catalogue (suc k) i letters befores afters =
     ap (λ r. fine_catalogue_entry letters befores afters i && r) (all_catalogue k (i + 1) letters befores afters)
-    ∙ and_again (is_letter (get_or letters i 0)) (is_fine (judge_catalogue_line (entry_numbers (get_or befores i 0) (get_or afters i 0) 0))) (catalogue_fine k (i + 1) letters befores afters)
+    ∙ and_assoc (is_letter (get_or letters i 0)) (is_fine (judge_catalogue_line (entry_numbers (get_or befores i 0) (get_or afters i 0) 0))) (catalogue_fine k (i + 1) letters befores afters)
 
 pub all_options : (k i : ℕ) (numbers weights : List ℕ) → list_all (fine_option numbers weights) (range_with_len i k) ≡ options_fine k i numbers weights
 unfolding options_fine

@@ -1,7 +1,7 @@
 -- The computation tells the first rule that a line breaks, and there is one such answer only.
 use Prim.Native.Nat.{ℕ, ◌≤◌, ◌<◌}
 use mathlib.Core.Logic.{inl, inr}
-use mathlib.Core.Path.{◌≡◌, refl, sym, ap, ◌∙◌}
+use mathlib.Core.Path.{◌≡◌, refl, ap}
 use mathlib.Core.Bool.{Bool, true, false, cond}
 use mathlib.Core.List.{List}
 use native.Mathlib.Omega.{arith}
@@ -19,14 +19,10 @@ use Rattle.sheet.specs.declared.judged.Judged.{Judged}
 use Rattle.sheet.specs.declared.judged.Judged.TheVariants.{Fine, Broken}
 use Rattle.sheet.proofs.JudgeLaws.{outside}
 
-zero_one : ◌≡◌ {A = ℕ} 0 1 → ⊥
-zero_one e = omega arith
-
 is_outside : (x : ℕ) → no_option x ≡ true → OptionNumber x → ⊥
 is_outside x e g =
     let p : no_option x ≡ false = rw (ne_eqb x 0 (λ d. omega (arith, g)), le-ltb 250 x g.1) in
-    let z : true ≡ false = sym e ∙ p in
-    zero_one (cc)
+    cc
 
 -- the columns of a line's numbers, from left to right
 abbrev pub LeftToRight : Numbers → Type 0
@@ -45,7 +41,7 @@ data ToldBy (k : Refusal) (c : ℕ) : Judged → Type 0 where
   by : {k' : Refusal} {c' : ℕ} → NoLater k' c' k c → ToldBy k c (Broken k' c')
 
 not_fine : {k : Refusal} {c : ℕ} {j : Judged} → ToldBy k c j → j ≡ Fine → ⊥
-not_fine (by p) e = zero_one (cc)
+not_fine (by p) e = cc
 
 no_later : {k k' : Refusal} {c c' : ℕ} → ToldBy k c (Broken k' c') → NoLater k' c' k c
 no_later (by p) = p

@@ -13,19 +13,16 @@ use Rattle.sheet.specs.declared.answer.Refusal.{Refusal}
 use Rattle.sheet.specs.declared.judged.Judged.{Judged}
 use Rattle.sheet.specs.declared.judged.Judged.TheVariants.{Fine, Broken}
 
-zero_one : ◌≡◌ {A = ℕ} 0 1 → ⊥
-zero_one e = omega arith
-
 -- a test that was passed
 passed : (t : Bool) (k : Refusal) (c : ℕ) (j : Judged) → cond t (Broken k c) j ≡ Fine → (t ≡ false) × (j ≡ Fine)
-passed true k c j e = absurd (zero_one (cc))
+passed true k c j e = cc
 passed false k c j e = (refl, e)
 
 inside : (x : ℕ) → no_option x ≡ false → OptionNumber x
 inside x e = go (eqb x 0) refl e
   where
     go : (t : Bool) → eqb x 0 ≡ t → (t || ltb 250 x) ≡ false → OptionNumber x
-    go true p q = absurd (zero_one (cc))
+    go true p q = cc
     go false p q =
         let n = eqb-false x 0 p in
         (omega (arith, n), ltb-false 250 x q)
@@ -38,10 +35,10 @@ outside x n = go (no_option x) refl
     go false p = absurd (n (inside x p))
 
 known : (s t r : Bool) (k k' k'' : Refusal) (c c' c'' : ℕ) → cond s (cond t (cond r (Broken k c) Fine) (Broken k' c')) (Broken k'' c'') ≡ Fine → (s ≡ true) × ((t ≡ true) × (r ≡ false))
-known true true true k k' k'' c c' c'' e = absurd (zero_one (cc))
+known true true true k k' k'' c c' c'' e = cc
 known true true false k k' k'' c c' c'' e = (refl, (refl, refl))
-known true false r k k' k'' c c' c'' e = absurd (zero_one (cc))
-known false t r k k' k'' c c' c'' e = absurd (zero_one (cc))
+known true false r k k' k'' c c' c'' e = cc
+known false t r k k' k'' c c' c'' e = cc
 
 -- what a passed line obeys: a C or X line, an F line, a U line
 abbrev pub CatalogueObeys : Numbers → Type 0

@@ -2,14 +2,15 @@
 use Prim.Native.Nat.{ℕ, zero, suc, ◌+◌, ◌-◌, ◌≤◌, ◌<◌}
 use mathlib.Core.Logic.{⊎_elim, inl, inr}
 use mathlib.Core.Path.{◌≡◌, refl, sym, ap, subst, ◌∙◌}
-use mathlib.Core.Bool.{Bool, true, false, ◌&&◌, ◌||◌, not}
+use mathlib.Core.Bool.{Bool, true, false, ◌||◌, not}
 use mathlib.Core.List.{List, [], ◌∷◌}
 use native.Mathlib.Omega.{arith}
 use native.Mathlib.Nat.{eq-or-lt_of_le}
 use lib.Dec.{eqb, ltb}
 use lib.ListN.{length, take, drop, get_or}
 use lib.Seq.{get_or-drop}
-use borrow.Author.Tests.{eqb-true, ltb-true, ltb-false, not-true}
+use borrow.Author.Tests.{eqb-true, ltb-false, not-true}
+use Rattle.std.proofs.lemmas.Bool.{and_parts}
 use Rattle.sheet.specs.IsRecorded.{is_fine, is_letter, entry_numbers, catalogue_fine, options_fine, orderings_fine, all_zero, within_limits, catalogue_recorded, options_recorded, orderings_recorded, is_recorded}
 use Rattle.sheet.specs.Limits.{catalogue_limit, option_limit, ordering_limit}
 use Rattle.sheet.specs.Judge.{judge_catalogue_line, judge_option, judge_ordering}
@@ -20,28 +21,21 @@ use Rattle.sheet.specs.declared.sheet.Sheet.{Sheet}
 use Rattle.sheet.proofs.JudgeLaws.{CatalogueObeys, OptionObeys, OrderingObeys, catalogue_obeys, option_obeys, ordering_obeys}
 use Rattle.sheet.proofs.SlotLaws.{in_slot_of, not_in_slots, pair_not_in_slots}
 
-zero_one : ◌≡◌ {A = ℕ} 0 1 → ⊥
-zero_one e = omega arith
-
-both : (a b : Bool) → (a && b) ≡ true → (a ≡ true) × (b ≡ true)
-both true b e = (refl, e)
-both false b e = absurd (zero_one (cc))
-
 -- no section has too many lines
 pub limits_kept : (c o r : ℕ) → within_limits c o r ≡ true → (c ≤ catalogue_limit) × ((o ≤ option_limit) × (r ≤ ordering_limit))
 limits_kept c o r e =
-    let p = both (not (ltb catalogue_limit c)) _ e in
-    let q = both (not (ltb option_limit o)) _ p.1 in
+    let p = and_parts (not (ltb catalogue_limit c)) _ e in
+    let q = and_parts (not (ltb option_limit o)) _ p.1 in
     (ltb-false catalogue_limit c (not-true _ p.0), (ltb-false option_limit o (not-true _ q.0), ltb-false ordering_limit r (not-true _ q.1)))
 
 pub recorded_limits : (s : Sheet) → is_recorded s ≡ true
     → (s.catalogue_lines ≤ catalogue_limit) × ((s.option_count ≤ option_limit) × (s.ordering_count ≤ ordering_limit))
 unfolding is_recorded
-recorded_limits s e = limits_kept _ _ _ (both (within_limits s.catalogue_lines s.option_count s.ordering_count) _ e).0
+recorded_limits s e = limits_kept _ _ _ (and_parts (within_limits s.catalogue_lines s.option_count s.ordering_count) _ e).0
 
 fine_of : (v : Judged) → is_fine v ≡ true → v ≡ Fine
 fine_of Fine e = refl
-fine_of (Broken k c) e = absurd (zero_one (cc))
+fine_of (Broken k c) e = cc
 
 letter_good : (c : ℕ) → is_letter c ≡ true → CatalogueLetter c
 letter_good c e = go (eqb c 67) refl e
@@ -56,9 +50,9 @@ catalogue_each : (letters befores afters : List ℕ) (k i : ℕ) → catalogue_f
 unfolding catalogue_fine
 catalogue_each letters befores afters zero i e j p q = absurd (omega arith)
 catalogue_each letters befores afters (suc k) i e j p q =
-    let a = both (is_letter (get_or letters i 0)) _ e in
+    let a = and_parts (is_letter (get_or letters i 0)) _ e in
     let h = entry_numbers (get_or befores i 0) (get_or afters i 0) 0 in
-    let b = both (is_fine (judge_catalogue_line h)) _ a.1 in
+    let b = and_parts (is_fine (judge_catalogue_line h)) _ a.1 in
     ⊎_elim
     (λ w. subst (λ (x : ℕ). CatalogueLetter (get_or letters x 0) × CatalogueObeys (entry_numbers (get_or befores x 0) (get_or afters x 0) 0)) w
     (letter_good (get_or letters i 0) a.0, catalogue_obeys h (fine_of _ b.0)))
@@ -71,7 +65,7 @@ unfolding options_fine
 options_each numbers weights zero i e j p q = absurd (omega arith)
 options_each numbers weights (suc k) i e j p q =
     let h = entry_numbers (get_or numbers i 0) (get_or weights i 0) 0 in
-    let b = both (is_fine (judge_option h (take i numbers))) _ e in
+    let b = and_parts (is_fine (judge_option h (take i numbers))) _ e in
     ⊎_elim
     (λ w. subst (λ (x : ℕ). OptionObeys (entry_numbers (get_or numbers x 0) (get_or weights x 0) 0) (take x numbers)) w (option_obeys h (take i numbers) (fine_of _ b.0)))
     (λ w. options_each numbers weights k (i + 1) b.1 j (omega arith) (omega arith))
@@ -83,7 +77,7 @@ unfolding orderings_fine
 orderings_each subscribed firsts seconds weights zero i e j p q = absurd (omega arith)
 orderings_each subscribed firsts seconds weights (suc k) i e j p q =
     let h = entry_numbers (get_or firsts i 0) (get_or seconds i 0) (get_or weights i 0) in
-    let b = both (is_fine (judge_ordering h subscribed (take i firsts) (take i seconds))) _ e in
+    let b = and_parts (is_fine (judge_ordering h subscribed (take i firsts) (take i seconds))) _ e in
     ⊎_elim
     (λ w. subst (λ (x : ℕ). OrderingObeys (entry_numbers (get_or firsts x 0) (get_or seconds x 0) (get_or weights x 0)) subscribed (take x firsts) (take x seconds)) w
     (ordering_obeys h subscribed (take i firsts) (take i seconds) (fine_of _ b.0)))
@@ -93,8 +87,8 @@ orderings_each subscribed firsts seconds weights (suc k) i e j p q =
 zero_in : (l : List ℕ) (i : ℕ) → all_zero l ≡ true → get_or l i 0 ≡ 0
 unfolding all_zero
 zero_in [] i e = refl
-zero_in (x ∷ l) zero e = eqb-true x 0 (both (eqb x 0) _ e).0
-zero_in (x ∷ l) (suc i) e = zero_in l i (both (eqb x 0) _ e).1
+zero_in (x ∷ l) zero e = eqb-true x 0 (and_parts (eqb x 0) _ e).0
+zero_in (x ∷ l) (suc i) e = zero_in l i (and_parts (eqb x 0) _ e).1
 
 zero_from : (n : ℕ) (l : List ℕ) → all_zero (drop n l) ≡ true → (i : ℕ) → n ≤ i → get_or l i 0 ≡ 0
 zero_from n l e i h =
@@ -102,12 +96,7 @@ zero_from n l e i h =
     ap (λ (j : ℕ). get_or l j 0) z ∙ sym (get_or-drop n l (i - n) 0) ∙ zero_in (drop n l) (i - n) e
 
 neither_before : (i j : ℕ) → (i < j → ⊥) → (j < i → ⊥) → i ≡ j
-neither_before i j p q = go (ltb i j) refl (ltb j i) refl
-  where
-    go : (s : Bool) → ltb i j ≡ s → (t : Bool) → ltb j i ≡ t → i ≡ j
-    go true e t d = absurd (p (ltb-true i j e))
-    go false e true d = absurd (q (ltb-true j i d))
-    go false e false d = omega (arith, ltb-false i j e, ltb-false j i d)
+neither_before i j p q = omega arith
 
 -- what the check of each section says
 module _ (n : ℕ) (letters befores afters : List ℕ) (e : catalogue_recorded n letters befores afters ≡ true) where
@@ -115,25 +104,25 @@ module _ (n : ℕ) (letters befores afters : List ℕ) (e : catalogue_recorded n
       × ((all_zero (drop n letters) ≡ true) × ((all_zero (drop n befores) ≡ true) × (all_zero (drop n afters) ≡ true)))
   unfolding catalogue_recorded
   catalogue_parts =
-      let a = both (catalogue_fine n 0 letters befores afters) _ e in
-      let b = both (all_zero (drop n letters)) _ a.1 in
-      (a.0, (b.0, both (all_zero (drop n befores)) _ b.1))
+      let a = and_parts (catalogue_fine n 0 letters befores afters) _ e in
+      let b = and_parts (all_zero (drop n letters)) _ a.1 in
+      (a.0, (b.0, and_parts (all_zero (drop n befores)) _ b.1))
 
 module _ (n : ℕ) (numbers weights : List ℕ) (e : options_recorded n numbers weights ≡ true) where
   options_parts : (options_fine n 0 numbers weights ≡ true) × ((all_zero (drop n numbers) ≡ true) × (all_zero (drop n weights) ≡ true))
   unfolding options_recorded
   options_parts =
-      let a = both (options_fine n 0 numbers weights) _ e in
-      (a.0, both (all_zero (drop n numbers)) _ a.1)
+      let a = and_parts (options_fine n 0 numbers weights) _ e in
+      (a.0, and_parts (all_zero (drop n numbers)) _ a.1)
 
 module _ (n : ℕ) (subscribed firsts seconds weights : List ℕ) (e : orderings_recorded n subscribed firsts seconds weights ≡ true) where
   orderings_parts : (orderings_fine n 0 subscribed firsts seconds weights ≡ true)
       × ((all_zero (drop n firsts) ≡ true) × ((all_zero (drop n seconds) ≡ true) × (all_zero (drop n weights) ≡ true)))
   unfolding orderings_recorded
   orderings_parts =
-      let a = both (orderings_fine n 0 subscribed firsts seconds weights) _ e in
-      let b = both (all_zero (drop n firsts)) _ a.1 in
-      (a.0, (b.0, both (all_zero (drop n seconds)) _ b.1))
+      let a = and_parts (orderings_fine n 0 subscribed firsts seconds weights) _ e in
+      let b = and_parts (all_zero (drop n firsts)) _ a.1 in
+      (a.0, (b.0, and_parts (all_zero (drop n seconds)) _ b.1))
 
 module _ (s : Sheet) (L : Lengths s) (e : is_recorded s ≡ true) where
   few : (s.catalogue_lines ≤ 512) × ((s.option_count ≤ 32) × (s.ordering_count ≤ 64))
@@ -147,9 +136,9 @@ module _ (s : Sheet) (L : Lengths s) (e : is_recorded s ≡ true) where
       × (orderings_recorded s.ordering_count (take s.option_count s.numbers) s.firsts s.seconds s.ordering_weights ≡ true))
   unfolding is_recorded
   sections =
-      let a = both (within_limits s.catalogue_lines s.option_count s.ordering_count) _ e in
-      let b = both (catalogue_recorded s.catalogue_lines s.letters s.befores s.afters) _ a.1 in
-      (b.0, both (options_recorded s.option_count s.numbers s.weights) _ b.1)
+      let a = and_parts (within_limits s.catalogue_lines s.option_count s.ordering_count) _ e in
+      let b = and_parts (catalogue_recorded s.catalogue_lines s.letters s.befores s.afters) _ a.1 in
+      (b.0, and_parts (options_recorded s.option_count s.numbers s.weights) _ b.1)
 
   catalogue_entry : (i : ℕ) → i < s.catalogue_lines → CatalogueLetter (letter s i) × CatalogueObeys (entry_numbers (before s i) (after s i) 0)
   catalogue_entry i h =

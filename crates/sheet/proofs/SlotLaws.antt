@@ -8,26 +8,11 @@ use lib.Dec.{eqb}
 use lib.ListN.{length, take, get_or}
 use lib.Seq.{length-take-le, get_or-take}
 use borrow.Author.Tests.{eqb-true, eq-eqb}
+use Rattle.std.proofs.lemmas.Bool.{and_parts, both_ways, false_from_ne_true, or_right}
 use Rattle.sheet.specs.Judge.{is_in, is_pair}
 
-zero_one : ◌≡◌ {A = ℕ} 0 1 → ⊥
-zero_one e = omega arith
-
-or_right : (a b : Bool) → b ≡ true → (a || b) ≡ true
-or_right true b e = refl
-or_right false b e = e
-
-by_false : (b : Bool) → (b ≡ true → ⊥) → b ≡ false
-by_false true n = absurd (n refl)
-by_false false n = refl
-
-not_both : {b : Bool} → b ≡ true → b ≡ false → ⊥
-not_both {b = b} p q =
-    let z : true ≡ false = sym p ∙ q in
-    zero_one (cc)
-
 in_slot : (x : ℕ) (l : List ℕ) → is_in x l ≡ true → (i : ℕ) × ((i < length l) × (get_or l i 0 ≡ x))
-in_slot x [] e = absurd (zero_one (cc))
+in_slot x [] e = cc
 in_slot x (y ∷ l) e = go (eqb y x) refl e (in_slot x l)
   where
     go : (b : Bool) → eqb y x ≡ b → (b || is_in x l) ≡ true → (is_in x l ≡ true → (i : ℕ) × ((i < length l) × (get_or l i 0 ≡ x)))
@@ -48,13 +33,9 @@ slot_pair x y (a ∷ l) [] i h g e d = absurd (omega arith)
 slot_pair x y (a ∷ l) (b ∷ m) zero h g e d = rw (eq-eqb a x e, eq-eqb b y d)
 slot_pair x y (a ∷ l) (b ∷ m) (suc i) h g e d = or_right (eqb a x && eqb b y) (is_pair x y l m) (slot_pair x y l m i (omega arith) (omega arith) e d)
 
-both : (a b : Bool) → (a && b) ≡ true → (a ≡ true) × (b ≡ true)
-both true b e = (refl, e)
-both false b e = absurd (zero_one (cc))
-
 pair_slot : (x y : ℕ) (l m : List ℕ) → is_pair x y l m ≡ true → (i : ℕ) × ((i < length l) × ((get_or l i 0 ≡ x) × (get_or m i 0 ≡ y)))
-pair_slot x y [] m e = absurd (zero_one (cc))
-pair_slot x y (a ∷ l) [] e = absurd (zero_one (cc))
+pair_slot x y [] m e = cc
+pair_slot x y (a ∷ l) [] e = cc
 pair_slot x y (a ∷ l) (b ∷ m) e = go (eqb a x && eqb b y) refl e (pair_slot x y l m)
   where
     Found : List ℕ → List ℕ → Type 0
@@ -62,7 +43,7 @@ pair_slot x y (a ∷ l) (b ∷ m) e = go (eqb a x && eqb b y) refl e (pair_slot 
 
     go : (t : Bool) → (eqb a x && eqb b y) ≡ t → (t || is_pair x y l m) ≡ true → (is_pair x y l m ≡ true → Found l m) → Found (a ∷ l) (b ∷ m)
     go true p q ih =
-        let r = both (eqb a x) (eqb b y) p in
+        let r = and_parts (eqb a x) (eqb b y) p in
         (0, (omega arith, (eqb-true a x r.0, eqb-true b y r.1)))
     go false p q ih =
         let r = ih q in
@@ -83,21 +64,20 @@ module _ (n : ℕ) (l : List ℕ) (len : n ≤ length l) where
   slot_is_in x i h e = slot_in x (take n l) i (omega (arith, length-take-le n l len)) (first_in i h ∙ e)
 
   pub not_in_slots : (x : ℕ) → is_in x (take n l) ≡ false → (i : ℕ) → i < n → get_or l i 0 ≡ x → ⊥
-  not_in_slots x e i h d = not_both (slot_is_in x i h d) e
+  not_in_slots x e i h d = both_ways _ e (slot_is_in x i h d)
 
   pub no_slot_has : (x : ℕ) → ((i : ℕ) → i < n → get_or l i 0 ≡ x → ⊥) → is_in x (take n l) ≡ false
-  no_slot_has x no_one = by_false (is_in x (take n l)) (λ e. let r = in_slot_of x e in no_one r.0 r.1.0 r.1.1)
+  no_slot_has x no_one = false_from_ne_true (is_in x (take n l)) (λ e. let r = in_slot_of x e in no_one r.0 r.1.0 r.1.1)
 
   module _ (m : List ℕ) (len' : n ≤ length m) where
     pub pair_not_in_slots : (x y : ℕ) → is_pair x y (take n l) (take n m) ≡ false → (i : ℕ) → i < n → get_or l i 0 ≡ x → get_or m i 0 ≡ y → ⊥
     pair_not_in_slots x y e i h p q =
-        not_both
+        both_ways _ e
         (slot_pair x y (take n l) (take n m) i (omega (arith, length-take-le n l len)) (omega (arith, length-take-le n m len')) (first_in i h ∙ p) (get_or-take n m i 0 h ∙ q))
-        e
 
     pub no_slot_has_pair : (x y : ℕ) → ((i : ℕ) → i < n → get_or l i 0 ≡ x → get_or m i 0 ≡ y → ⊥) → is_pair x y (take n l) (take n m) ≡ false
     no_slot_has_pair x y no_one =
-        by_false (is_pair x y (take n l) (take n m))
+        false_from_ne_true (is_pair x y (take n l) (take n m))
         (λ e.
         let r = pair_slot x y (take n l) (take n m) e in
         let h : r.0 < n = omega (arith, r.1.0, length-take-le n l len) in

@@ -8,10 +8,10 @@ use pieces::byte_at;
 use sheet::{Decision, Decisions, Slot};
 
 // No `TryFrom`: every list is answered for, and a byte past 2, which `are_decisions` turns away, counts as open.
-fn choice_of(b: u8) -> Decision
-    ensures { result ≡ choice_of b }
+fn choice_of(byte: u8) -> Decision
+    ensures { result ≡ choice_of byte }
 {
-    match b {
+    match byte {
         1 => Decision::Kept,
         2 => Decision::Dropped,
         _ => Decision::Open,
@@ -51,7 +51,7 @@ pub fn decisions_of(bytes: &[u8]) -> Decisions
 fn none_is_past_two(bytes: &[u8]) -> bool
     ensures { result ≡ list_all is_decision bytes.now }
 {
-    bytes.iter().all(|b| *b < 3)
+    bytes.iter().all(|byte| *byte < 3)
 }
 
 // Whether the bytes spell a decision list.

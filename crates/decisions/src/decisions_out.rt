@@ -7,10 +7,10 @@ ghost use Rattle.decisions.specs.Decisions.{byte_of, decision_bytes};
 
 use sheet::{Decision, Decisions};
 
-fn byte_of(c: Decision) -> u8
-    ensures { result ≡ byte_of c }
+fn byte_of(decision: Decision) -> u8
+    ensures { result ≡ byte_of decision }
 {
-    c as u8
+    decision as u8
 }
 
 // The decisions about the N slots of one kind, from byte `at` on.
@@ -23,10 +23,10 @@ fn put_list<const N: usize>(decisions: &[Decision; N], out: &mut [u8], at: usize
     }
 }
 
-pub fn put_decisions(d: Decisions, out: &mut [u8])
+pub fn put_decisions(decisions: Decisions, out: &mut [u8])
     requires { 96 ≤ length out.old }
-    ensures { out.new ≡ put 0 (decision_bytes d) out.old }
+    ensures { out.new ≡ put 0 (decision_bytes decisions) out.old }
 {
-    put_list(&d.options, out, 0);
-    put_list(&d.orderings, out, 32);
+    put_list(&decisions.options, out, 0);
+    put_list(&decisions.orderings, out, 32);
 }

@@ -6,11 +6,11 @@ ghost use Rattle.fields.specs.Record.{two_bytes, twos_of, bytes_in, head_of, tai
 use sheet::Sheet;
 
 // A number of two bytes, the lower one first.
-fn put_two(x: u16, out: &mut [u8], at: usize)
+fn put_two(number: u16, out: &mut [u8], at: usize)
     requires { at + 2 ≤ length out.old }
-    ensures { out.new ≡ put at (two_bytes x) out.old }
+    ensures { out.new ≡ put at (two_bytes number) out.old }
 {
-    out[at..at + 2].copy_from_slice(&x.to_le_bytes());
+    out[at..at + 2].copy_from_slice(&number.to_le_bytes());
 }
 
 // N numbers of two bytes each.
@@ -18,8 +18,8 @@ fn put_twos<const N: usize>(from: &[u16; N], out: &mut [u8], at: usize)
     requires { at + 2 * N ≤ length out.old }
     ensures { out.new ≡ put at (twos_of N from.now) out.old }
 {
-    for (i, x) in from.iter().enumerate() {
-        put_two(*x, out, at + 2 * i);
+    for (i, number) in from.iter().enumerate() {
+        put_two(*number, out, at + 2 * i);
     }
 }
 
@@ -32,36 +32,36 @@ fn put_bytes<const N: usize>(from: &[u8; N], out: &mut [u8], at: usize)
 }
 
 // The counts and the weights.
-fn put_head(s: &Sheet, out: &mut [u8])
-    requires counts_bound { (s.now.catalogue_lines < 65536) × ((s.now.option_count < 65536) × (s.now.ordering_count < 65536)) }
+fn put_head(sheet: &Sheet, out: &mut [u8])
+    requires counts_bound { (sheet.now.catalogue_lines < 65536) × ((sheet.now.option_count < 65536) × (sheet.now.ordering_count < 65536)) }
     requires in_bounds { 1894 ≤ length out.old }
-    ensures { out.new ≡ put 0 (head_of s.now) out.old }
+    ensures { out.new ≡ put 0 (head_of sheet.now) out.old }
 {
-    put_two(s.catalogue_lines as u16, out, 0);
-    put_two(s.option_count as u16, out, 2);
-    put_two(s.ordering_count as u16, out, 4);
-    put_twos(&s.weights, out, 6);
-    put_twos(&s.ordering_weights, out, 70);
+    put_two(sheet.catalogue_lines as u16, out, 0);
+    put_two(sheet.option_count as u16, out, 2);
+    put_two(sheet.ordering_count as u16, out, 4);
+    put_twos(&sheet.weights, out, 6);
+    put_twos(&sheet.ordering_weights, out, 70);
 }
 
 // The letters and the option numbers.
-fn put_tail(s: &Sheet, out: &mut [u8])
+fn put_tail(sheet: &Sheet, out: &mut [u8])
     requires { 1894 ≤ length out.old }
-    ensures { out.new ≡ put 198 (tail_of s.now) out.old }
+    ensures { out.new ≡ put 198 (tail_of sheet.now) out.old }
 {
-    put_bytes(&s.letters, out, 198);
-    put_bytes(&s.befores, out, 710);
-    put_bytes(&s.afters, out, 1222);
-    put_bytes(&s.numbers, out, 1734);
-    put_bytes(&s.firsts, out, 1766);
-    put_bytes(&s.seconds, out, 1830);
+    put_bytes(&sheet.letters, out, 198);
+    put_bytes(&sheet.befores, out, 710);
+    put_bytes(&sheet.afters, out, 1222);
+    put_bytes(&sheet.numbers, out, 1734);
+    put_bytes(&sheet.firsts, out, 1766);
+    put_bytes(&sheet.seconds, out, 1830);
 }
 
-pub fn put_record(s: &Sheet, out: &mut [u8])
-    requires counts_bound { (s.now.catalogue_lines < 65536) × ((s.now.option_count < 65536) × (s.now.ordering_count < 65536)) }
+pub fn put_record(sheet: &Sheet, out: &mut [u8])
+    requires counts_bound { (sheet.now.catalogue_lines < 65536) × ((sheet.now.option_count < 65536) × (sheet.now.ordering_count < 65536)) }
     requires in_bounds { 1894 ≤ length out.old }
-    ensures { out.new ≡ put 0 (bytes_of s.now) out.old }
+    ensures { out.new ≡ put 0 (bytes_of sheet.now) out.old }
 {
-    put_head(s, out);
-    put_tail(s, out);
+    put_head(sheet, out);
+    put_tail(sheet, out);
 }

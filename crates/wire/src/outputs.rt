@@ -32,16 +32,22 @@ fn if_it_fits(answer: Answer, fits: bool) -> Answer
     answer
 }
 
-// The answer where n entries go to a lent output of this length.
-pub fn lent(answer: Answer, long: usize, n: usize) -> Answer
-    ensures { (result ≡ lent answer (leb n long)) × (is_accepted result ≡ true → n ≤ long) }
+// The answer where so many entries go to a lent output of this length.
+pub fn lent(answer: Answer, length: usize, entries: usize) -> Answer
+    ensures { (result ≡ lent answer (leb entries length)) × (is_accepted result ≡ true → entries ≤ length) }
 {
-    if_it_fits(answer, n <= long)
+    if_it_fits(answer, entries <= length)
 }
 
-// And where m more go to another.
-pub fn lent_both(answer: Answer, long: usize, n: usize, other: usize, m: usize) -> Answer
-    ensures { (result ≡ lent answer (leb n long && leb m other)) × (is_accepted result ≡ true → (n ≤ long) × (m ≤ other)) }
+// And where more go to another.
+pub fn lent_both(
+    answer: Answer,
+    length: usize,
+    entries: usize,
+    other_length: usize,
+    others: usize,
+) -> Answer
+    ensures { (result ≡ lent answer (leb entries length && leb others other_length)) × (is_accepted result ≡ true → (entries ≤ length) × (others ≤ other_length)) }
 {
-    if_it_fits(answer, n <= long && m <= other)
+    if_it_fits(answer, entries <= length && others <= other_length)
 }

@@ -4,7 +4,7 @@ use Rattle.fields_out.proofs.record_out.put_head.Goals as goal
 
 pub returns : goal.returns
 returns c =
-    head_put c.args.s.now c.args.out.now
+    head_put c.args.sheet.now c.args.out.now
     c.put_two.ensures
     c.put_two-2.ensures
     c.put_two-3.ensures

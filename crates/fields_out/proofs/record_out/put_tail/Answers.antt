@@ -4,7 +4,7 @@ use Rattle.fields_out.proofs.record_out.put_tail.Goals as goal
 
 pub returns : goal.returns
 returns c =
-    tail_put c.args.s.now c.args.out.now
+    tail_put c.args.sheet.now c.args.out.now
     c.put_bytes.ensures
     c.put_bytes-2.ensures
     c.put_bytes-3.ensures

@@ -9,5 +9,5 @@ use Rattle.fields_out.proofs.record_out.put_two.Goals as goal
 
 pub returns : goal.returns
 returns c =
-    let bytes = c.copy_from_slice.ensures.after ∙ c.to_le_bytes.ensures ∙ ap (λ high. c.args.x % 256 ∷ high ∷ []) (omega arith) in
-    slice_written _ 2 (two_bytes c.args.x) _ bytes refl c.requires
+    let bytes = c.copy_from_slice.ensures.after ∙ c.to_le_bytes.ensures ∙ ap (λ high. c.args.number % 256 ∷ high ∷ []) (omega arith) in
+    slice_written _ 2 (two_bytes c.args.number) _ bytes refl c.requires

@@ -5,7 +5,7 @@ use Rattle.figures.proofs.limits_out.put_limits.Goals as goal
 pub returns : goal.returns
 returns c =
     limits_put
-    c.args.l
+    c.args.limited.now
     c.args.out.now
-    c.put_options.ensures
-    c.put_orderings.ensures
+    c.put_fours.ensures
+    c.put_fours-2.ensures

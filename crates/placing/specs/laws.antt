@@ -1,3 +1,4 @@
+pub mod Told
 pub mod Next
 pub mod Slots
 pub mod Placed

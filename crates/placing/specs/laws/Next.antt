@@ -1,7 +1,8 @@
 -- The slot that the code finds is the one that the rules place next.
 use Rattle.std.proofs.Math.Path.{◌≡◌, refl}
-use Rattle.std.proofs.Common.{subst, ◌∙◌, arith, eq-eqb, ne_eqb}
-use Rattle.std.specs.Prelude.{Bool, ◌&&◌, ℕ, ◌+◌, ◌<◌, eqb, ltb}
+use Rattle.std.proofs.Common.{sym, subst, arith}
+use Rattle.std.specs.Prelude.{Bool, ◌&&◌, Some, None, IfSome, ℕ, ◌+◌, ◌<◌, ◌≤◌, ltb, T}
+use Rattle.std.specs.declared.option.Option as Held
 use Rattle.std.proofs.Math.Bool.{true, false, cond}
 use mathlib.Core.List.{List, [], ◌∷◌, Memᴰ}
 use Rattle.std.proofs.Math.Option.{Option, none, some}
@@ -12,8 +13,8 @@ use Rattle.rows.specs.Bits.{has}
 use Rattle.rows.specs.Sets.{cell}
 use Rattle.rules.specs.Results.{smallest_ready}
 use Rattle.rules.specs.Sequence.{ready}
-use Rattle.placing.specs.Next.{slot_or, number_at, is_ready, smallest_below, smaller_slot}
-use Rattle.rules.specs.Results.{smaller_of, if_ready}
+use Rattle.placing.specs.Next.{found_slot, number_at, is_ready, smallest_below, smaller_slot}
+use Rattle.rules.specs.Results.{if_ready}
 
 module _ (number : ℕ → ℕ) (e : ℕ → ℕ → Bool) where
   -- The smallest of a list is one of it.
@@ -38,23 +39,45 @@ module _ (t numbers : List ℕ) (n left : ℕ) where
   abbrev L : List ℕ
   L = slots n (has left)
 
-  pub smallest_none : n ≡ smallest_below t numbers n left 0
+  -- The best of the first i slots.
+  abbrev best_of : ℕ → Option ℕ
+  best_of i = smallest_ready N (cell t) L (slots i (has left))
+
+  pub smallest_none : None ≡ found_slot (smallest_below t numbers n left 0)
   unfolding smallest_below slots smallest_ready
   smallest_none = refl
 
-  pub smallest_step : {i best r : ℕ} {y : Bool} → i < n → best ≡ smallest_below t numbers n left i → y ≡ is_ready t numbers n left i → r ≡ smaller_slot n numbers y best i → r ≡ smallest_below t numbers n left (i + 1)
-  unfolding smallest_below slots smallest_ready smaller_slot
-  smallest_step {i} {best} {r} {y} l eb ey er = er ∙ rw (eb, ey, add-one i) (held (has left i) (λ x q. (slots_out i (has left) x (smallest_is_there N (cell t) L (slots i (has left)) x q)).0))
+  -- What is found is a slot that was looked at.
+  pub found_below : (i k : ℕ) → i ≤ k → IfSome (found_slot (smallest_below t numbers n left i)) (λ x. x < k)
+  unfolding smallest_below
+  found_below i k l = go (best_of i) (λ x q. let z = (slots_out i (has left) x (smallest_is_there N (cell t) L (slots i (has left)) x q)).0 in omega arith)
     where
-      found : (o : Option ℕ) → ((x : ℕ) → o ≡ some x → x < i) → cond (eqb (slot_or n o) n) i (cond (ltb (N (slot_or n o)) (N i)) (slot_or n o) i) ≡ slot_or n (smaller_of N (cell t) i o)
-      found none h = rw (eq-eqb n n refl) refl
-      found (some x) h = rw (ne_eqb x n (λ q. let z = h x refl in omega arith)) refl
+      go : (o : Option ℕ) → ((x : ℕ) → o ≡ some x → x < k) → IfSome (found_slot o) (λ x. x < k)
+      go none h = tt
+      go (some x) h = h x refl
 
-      if_free : (f : Bool) (o : Option ℕ) → ((x : ℕ) → o ≡ some x → x < i) → cond f (cond (eqb (slot_or n o) n) i (cond (ltb (N (slot_or n o)) (N i)) (slot_or n o) i)) (slot_or n o) ≡ slot_or n (if_ready N (cell t) f i o)
-      if_free true o h = found o h
-      if_free false o h = refl
+  -- A slot that is ready is compared with the best before it, and one that is not ready changes nothing.
+  pub smallest_step : (i : ℕ) {r : ℕ} {best : Held.Option ℕ} → best ≡ found_slot (smallest_below t numbers n left i) → is_ready t n left i ≡ true → r ≡ smaller_slot numbers best i → Some r ≡ found_slot (smallest_below t numbers n left (i + 1))
+  unfolding smallest_below slots smallest_ready smaller_slot
+  smallest_step i {r} {best} eb ey er = rw (er, eb, add-one i) (held (has left i) ey)
+    where
+      compared : (f : Bool) → f ≡ true → (o : Option ℕ) → Some (smaller_slot numbers (found_slot o) i) ≡ found_slot (if_ready N (cell t) f i o)
+      compared true e none = refl
+      compared true e (some x) = refl
+      compared false e o = absurd (subst T (sym e) tt)
 
-      held : (b : Bool) → ((x : ℕ) → (smallest_ready N (cell t) L (slots i (has left))) ≡ some x → x < i)
-          → cond (b && ready (cell t) L i) (cond (eqb (slot_or n (smallest_ready N (cell t) L (slots i (has left)))) n) i (cond (ltb (N (slot_or n (smallest_ready N (cell t) L (slots i (has left))))) (N i)) (slot_or n (smallest_ready N (cell t) L (slots i (has left)))) i)) (slot_or n (smallest_ready N (cell t) L (slots i (has left)))) ≡ slot_or n (smallest_ready N (cell t) L (keep_if b i (slots i (has left))))
-      held true h = if_free (ready (cell t) L i) (smallest_ready N (cell t) L (slots i (has left))) h
-      held false h = refl
+      held : (b : Bool) → (b && ready (cell t) L i) ≡ true → Some (smaller_slot numbers (found_slot (best_of i)) i) ≡ found_slot (smallest_ready N (cell t) L (keep_if b i (slots i (has left))))
+      held true e = compared (ready (cell t) L i) e (best_of i)
+      held false e = absurd (subst T (sym e) tt)
+
+  pub smallest_stays : (i : ℕ) {best : Held.Option ℕ} → best ≡ found_slot (smallest_below t numbers n left i) → is_ready t n left i ≡ false → best ≡ found_slot (smallest_below t numbers n left (i + 1))
+  unfolding smallest_below slots smallest_ready
+  smallest_stays i {best} eb ey = rw (eb, add-one i) (held (has left i) ey)
+    where
+      passed : (f : Bool) → f ≡ false → (o : Option ℕ) → found_slot o ≡ found_slot (if_ready N (cell t) f i o)
+      passed true e o = absurd (subst T e tt)
+      passed false e o = refl
+
+      held : (b : Bool) → (b && ready (cell t) L i) ≡ false → found_slot (best_of i) ≡ found_slot (smallest_ready N (cell t) L (keep_if b i (slots i (has left))))
+      held true e = passed (ready (cell t) L i) e (best_of i)
+      held false e = refl

@@ -1,7 +1,8 @@
 -- Writing the next number and turning its slot out leaves what is to be placed after it.
-use Rattle.std.specs.Prelude.{◌≡◌, set}
+use Rattle.std.specs.Prelude.{◌≡◌, Some, None, ⊤, set}
+use Rattle.std.specs.declared.option.Option as Held
 use Rattle.std.proofs.Math.Path.{refl, ap}
-use Rattle.std.proofs.Common.{sym, ◌∙◌}
+use Rattle.std.proofs.Common.{sym, subst}
 use mathlib.Core.List.{List, [], ◌∷◌, map}
 use Rattle.std.proofs.Math.Option.{Option, none, some}
 use Prim.Native.Nat.{ℕ, zero, suc, ◌+◌, ◌-◌, ◌<◌}
@@ -13,10 +14,15 @@ use Rattle.rows.specs.Bits.{has, turned}
 use Rattle.rows.specs.Sets.{cell}
 use Rattle.rules.specs.Results.{placed, smallest_ready, placed_first}
 use Rattle.rules.specs.Sequence.{without}
-use Rattle.placing.specs.Next.{slot_or, number_at, smallest_below, numbers_placed, number, written}
+use Rattle.placing.specs.Next.{found_slot, number_at, smallest_below, numbers_placed, number, written}
 use Rattle.placing.specs.laws.Next.{smallest_is_there}
 use Rattle.placing.specs.laws.Slots.{slots_turned}
 use Rattle.sheet.specs.declared.count.Number.{Number}
+
+-- Whether the code holds no slot.
+abbrev is_none_held : Held.Option ℕ → Type 0
+is_none_held None = ⊤
+is_none_held (Some x) = ⊥
 
 module _ (t numbers : List ℕ) (n left : ℕ) where
   abbrev N : ℕ → ℕ
@@ -28,34 +34,34 @@ module _ (t numbers : List ℕ) (n left : ℕ) where
   inside : (x : ℕ) → found ≡ some x → (x < n) × T (has left x)
   inside x q = slots_out n (has left) x (smallest_is_there N (cell t) (slots n (has left)) (slots n (has left)) x q)
 
-  pub nothing_placed : {x : ℕ} (k : ℕ) → x ≡ smallest_below t numbers n left n → x ≡ n → numbers_placed t numbers n k left ≡ []
+  pub nothing_placed : (k : ℕ) → None ≡ found_slot (smallest_below t numbers n left n) → numbers_placed t numbers n k left ≡ []
   unfolding smallest_below numbers_placed placed
-  nothing_placed zero e f = refl
-  nothing_placed {x} (suc k) e f = go found inside (sym e ∙ f)
+  nothing_placed zero e = refl
+  nothing_placed (suc k) e = go found e
     where
-      go : (o : Option ℕ) → ((y : ℕ) → o ≡ some y → (y < n) × T (has left y)) → slot_or n o ≡ n → map N (placed_first N (cell t) o (λ y. placed N (cell t) k (without y (slots n (has left))))) ≡ []
-      go none h q = refl
-      go (some y) h q = let z = (h y refl).0 in absurd (omega arith)
+      go : (o : Option ℕ) → None ≡ found_slot o → map N (placed_first N (cell t) o (λ y. placed N (cell t) k (without y (slots n (has left))))) ≡ []
+      go none q = refl
+      go (some y) q = absurd (subst is_none_held q tt)
 
-  pub one_placed : {x r : ℕ} (k : ℕ) → x ≡ smallest_below t numbers n left n → (x ≡ n → ⊥) → r ≡ turned left x → numbers_placed t numbers n (suc k) left ≡ N x ∷ numbers_placed t numbers n k r
+  pub one_placed : {x r : ℕ} (k : ℕ) → Some x ≡ found_slot (smallest_below t numbers n left n) → r ≡ turned left x → numbers_placed t numbers n (suc k) left ≡ N x ∷ numbers_placed t numbers n k r
   unfolding smallest_below numbers_placed placed
-  one_placed {x} {r} k e f g = rw (g, e) (go found inside (λ q. f (e ∙ q)))
+  one_placed {x} {r} k e g = rw g (go found inside e)
     where
-      go : (o : Option ℕ) → ((y : ℕ) → o ≡ some y → (y < n) × T (has left y)) → (slot_or n o ≡ n → ⊥)
-          → map N (placed_first N (cell t) o (λ y. placed N (cell t) k (without y (slots n (has left))))) ≡ N (slot_or n o) ∷ map N (placed N (cell t) k (slots n (has (turned left (slot_or n o)))))
-      go none h q = absurd (q refl)
-      go (some y) h q = ap (λ l. N y ∷ map N (placed N (cell t) k l)) (slots_turned n left y (h y refl).1)
+      go : (o : Option ℕ) → ((y : ℕ) → o ≡ some y → (y < n) × T (has left y)) → Some x ≡ found_slot o
+          → map N (placed_first N (cell t) o (λ y. placed N (cell t) k (without y (slots n (has left))))) ≡ N x ∷ map N (placed N (cell t) k (slots n (has (turned left x))))
+      go none h q = absurd (subst is_none_held (sym q) tt)
+      go (some y) h q = let f : y ≡ x = cc in rw (← f) (ap (λ l. N y ∷ map N (placed N (cell t) k l)) (slots_turned n left y (h y refl).1))
 
 -- ---- how the loop writes
 module _ (t numbers : List ℕ) (s : List Number) (n at left : ℕ) where
-  pub written_end : {x : ℕ} → x ≡ smallest_below t numbers n left n → x ≡ n → written s at (numbers_placed t numbers n (n - at) left) ≡ s
+  pub written_end : None ≡ found_slot (smallest_below t numbers n left n) → written s at (numbers_placed t numbers n (n - at) left) ≡ s
   unfolding written
-  written_end e f = rw (nothing_placed t numbers n left (n - at) e f) refl
+  written_end e = rw (nothing_placed t numbers n left (n - at) e) refl
 
-  pub written_more : {x y : ℕ} → at < n → x ≡ smallest_below t numbers n left n → (x ≡ n → ⊥) → y ≡ turned left x
+  pub written_more : {x y : ℕ} → at < n → Some x ≡ found_slot (smallest_below t numbers n left n) → y ≡ turned left x
       → written s at (numbers_placed t numbers n (n - at) left) ≡ written (set s at (number (number_at numbers x))) (at + 1) (numbers_placed t numbers n (n - (at + 1)) y)
   unfolding written
-  written_more {x} {y} l e f g = let q : n - at ≡ suc (n - (at + 1)) = omega arith in rw (q, one_placed t numbers n left {x = x} {r = y} (n - (at + 1)) e f g) refl
+  written_more {x} {y} l e g = let q : n - at ≡ suc (n - (at + 1)) = omega arith in rw (q, one_placed t numbers n left {x = x} {r = y} (n - (at + 1)) e g) refl
 
   pub written_done : at ≡ n → written s at (numbers_placed t numbers n (n - at) left) ≡ s
   unfolding written numbers_placed placed

@@ -1,4 +1,4 @@
-// Whether nothing open lies on one side of an item.
+// Whether nothing open lies on one side of an item. Items are numbers, as the theorem loose_told has them.
 ghost use Rattle.std.specs.Prelude.{◌≤◌, ◌<◌, length};
 ghost use Rattle.numbered.specs.Items.{Named};
 ghost use Rattle.links.specs.Links.{OnlyIf};

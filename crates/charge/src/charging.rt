@@ -21,7 +21,8 @@ pub fn measure_all(chart: &Chart, left: &Left, chain: &[u8]) -> Measure
     ensures { Measured chart.now.firsts chart.now.seconds chart.now.option_count chart.now.ordering_count left.now.options left.now.orderings chain.now (length chain.now) result.least result.was × (result.least ≤ 4259775) }
 {
     let mut was: [u32; 64] = [0; 64];
-    let mut least: u32 = 4259775;
+    // No item holds more: an option and 64 orderings of the greatest weight.
+    let mut least: u32 = 65 * 65535;
     for (p, x) in chain.iter().enumerate() {
         was[p] = held_by(chart, left, *x);
         least = least.min(was[p]);

@@ -1,4 +1,5 @@
-// When one item is linked to another, by their numbers: option i is i, ordering u is 32 + u.
+// When one item is linked to another, by their numbers: option i is i, ordering u is 32 + u. They stay numbers: a chain is kept as bytes, and
+// what is proved of chains (`numbered`, `take_all`) speaks of them so.
 ghost use Rattle.std.specs.Prelude.{◌≡◌, ◌≤◌, length};
 ghost use Rattle.numbered.specs.Items.{Named};
 ghost use Rattle.links.specs.Links.{AreSlots, OptionAt, linked_in};
@@ -21,7 +22,7 @@ pub fn is_linked(chart: &Chart, known: &[u32], x: u8, y: u8) -> bool
     requires { (chart.now.option_count ≤ length known.now) × Named chart.now.option_count chart.now.ordering_count x × Named chart.now.option_count chart.now.ordering_count y }
     ensures { result ≡ linked_in chart.now.option_count chart.now.ordering_count known.now chart.now.firsts chart.now.seconds x y }
 {
-    let o = option_at(&chart.seconds, chart.option_count, chart.ordering_count, x);
-    let i = option_at(&chart.firsts, chart.option_count, chart.ordering_count, y);
-    known[usize::from(o)].get(usize::from(i)) || (x.min(y) >= 32 && o == i)
+    let from = option_at(&chart.seconds, chart.option_count, chart.ordering_count, x);
+    let to = option_at(&chart.firsts, chart.option_count, chart.ordering_count, y);
+    known[usize::from(from)].get(usize::from(to)) || (x.min(y) >= 32 && from == to)
 }

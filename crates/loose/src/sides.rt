@@ -1,4 +1,4 @@
-// Whether nothing open lies on one side of an item.
+// Whether nothing open lies on one side of an item. Items are numbers, as the theorem loose_told has them.
 ghost use Rattle.std.specs.Prelude.{◌≤◌, ◌<◌, length};
 ghost use Rattle.numbered.specs.Items.{Named};
 ghost use Rattle.links.specs.Links.{OnlyIf};
@@ -17,11 +17,11 @@ pub fn is_free(row: u32, opens: u32, ends: u32, o: u8, x: u8) -> bool
 }
 
 // An option stands by itself; an ordering only if both its options are decided.
-pub fn has_closed_ends(opens: u32, a: u8, b: u8, x: u8) -> bool
-    requires { (a < 32) × (b < 32) }
-    ensures { OnlyIf result (ClosedEnds opens a b x) }
+pub fn has_closed_ends(opens: u32, first: u8, second: u8, x: u8) -> bool
+    requires { (first < 32) × (second < 32) }
+    ensures { OnlyIf result (ClosedEnds opens first second x) }
 {
-    x < 32 || !(opens.get(usize::from(a)) || opens.get(usize::from(b)))
+    x < 32 || !(opens.get(usize::from(first)) || opens.get(usize::from(second)))
 }
 
 // Item x is loose, if it is open. `after` is `known` transposed; `begins` and `ends` are where open orderings begin and end.
@@ -37,9 +37,9 @@ pub fn is_loose(
     requires { (chart.now.option_count ≤ length known.now) × (chart.now.option_count ≤ length after.now) × Named chart.now.option_count chart.now.ordering_count x }
     ensures { OnlyIf result (LooseBy known.now after.now chart.now.firsts chart.now.seconds chart.now.option_count opens begins ends x) }
 {
-    let a = links::option_at(&chart.firsts, chart.option_count, chart.ordering_count, x);
-    let b = links::option_at(&chart.seconds, chart.option_count, chart.ordering_count, x);
-    has_closed_ends(opens, a, b, x)
-        && (is_free(known[usize::from(b)], opens, begins, b, x)
-            || is_free(after[usize::from(a)], opens, ends, a, x))
+    let first = links::option_at(&chart.firsts, chart.option_count, chart.ordering_count, x);
+    let second = links::option_at(&chart.seconds, chart.option_count, chart.ordering_count, x);
+    has_closed_ends(opens, first, second, x)
+        && (is_free(known[usize::from(second)], opens, begins, second, x)
+            || is_free(after[usize::from(first)], opens, ends, first, x))
 }

@@ -1,5 +1,5 @@
 // Residuals: what is left to charge of each item's weight, what an item's consequences hold of it, and taking from it, for one item or a chain.
-// For the crates above: the numbers of a chain must be those of its items.
+// For the crates above: arrays handed to take_all must be those of a record, and the numbers of a chain those of its items.
 #![tactic(auto)]
 
 mod starting;

@@ -1,4 +1,4 @@
-// What an item's consequences hold of what is left, and taking from it.
+// What an item's consequences hold of what is left, and taking from it. Items are numbers, as take_all has them: see docs/DECISIONS.md.
 ghost use Rattle.std.specs.Prelude.{◌≡◌, ◌≤◌, ◌<◌, length};
 ghost use Rattle.graph.specs.Graph.{EndsAreSlots};
 ghost use Rattle.numbered.specs.Items.{Named};

@@ -33,10 +33,9 @@ pub fn take_all(
     };
     for q in 0..len {
         let x = chain[q];
-        let h = ends.held_by(&*options, &*orderings, x);
-        let w = was[q];
-        if w < h + e {
-            ends.take(options, orderings, x, h + e - w);
+        let held = ends.held_by(options, orderings, x);
+        if was[q] < held + e {
+            ends.take(options, orderings, x, held + e - was[q]);
         }
     }
 }

@@ -13,7 +13,7 @@ loop-u-preserved c =
     let turn = c.loop-u in
     elim c.if-touches.branch [
       | then-touches y ↦ took_as _ _ _ _ _ _ _ _ _ _ y.orderings-is y.rest-is
-            (took_yes _ _ _ _ _ turn.u turn.orderings turn.rest _ _ turn.invariant (omega arith) (sym c.touches.ensures ∙ y.if-touches.true) y.take_at-rest.ensures)
+          (took_yes _ _ _ _ _ turn.u turn.orderings turn.rest _ _ turn.invariant (omega arith) (sym c.touches.ensures ∙ y.if-touches.true) y.take_at-rest.ensures)
       | else-touches y ↦ took_as _ _ _ _ _ _ _ _ _ _ y.orderings-is y.rest-is
-            (took_no _ _ _ _ _ turn.u turn.orderings turn.rest turn.invariant (sym c.touches.ensures ∙ y.if-touches.false))
+          (took_no _ _ _ _ _ turn.u turn.orderings turn.rest turn.invariant (sym c.touches.ensures ∙ y.if-touches.false))
     ]

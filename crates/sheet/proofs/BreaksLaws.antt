@@ -6,7 +6,8 @@ use mathlib.Core.Bool.{Bool, true, false, cond}
 use mathlib.Core.List.{List}
 use native.Mathlib.Omega.{arith}
 use lib.Dec.{eqb, ltb}
-use borrow.Author.Tests.{eqb-true, eq-eqb, ne_eqb, ltb-true, lt-ltb, le-ltb}
+use borrow.Author.Tests.{eqb-true, eq-eqb, ltb-true, lt-ltb}
+use Rattle.std.proofs.lemmas.Bool.Decides.{nat_tests}
 use Rattle.shape.specs.Number.{numbers_of}
 use Rattle.shape.specs.declared.number.Numbers.{Numbers}
 use Rattle.sheet.specs.Answer.{number_of}
@@ -20,9 +21,7 @@ use Rattle.sheet.specs.declared.judged.Judged.TheVariants.{Fine, Broken}
 use Rattle.sheet.proofs.JudgeLaws.{outside}
 
 is_outside : (x : ℕ) → no_option x ≡ true → OptionNumber x → ⊥
-is_outside x e g =
-    let p : no_option x ≡ false = rw (ne_eqb x 0 (λ d. omega (arith, g)), le-ltb 250 x g.1) in
-    cc
+is_outside x e g = grind (arith, nat_tests)
 
 -- the columns of a line's numbers, from left to right
 abbrev pub LeftToRight : Numbers → Type 0

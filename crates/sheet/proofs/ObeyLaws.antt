@@ -1,16 +1,17 @@
 -- A record that the check passes obeys the rule.
 use Prim.Native.Nat.{ℕ, zero, suc, ◌+◌, ◌-◌, ◌≤◌, ◌<◌}
-use mathlib.Core.Logic.{⊎_elim, inl, inr}
+use mathlib.Core.Logic.{⊎_elim}
 use mathlib.Core.Path.{◌≡◌, refl, sym, ap, subst, ◌∙◌}
-use mathlib.Core.Bool.{Bool, true, false, ◌||◌, not}
+use mathlib.Core.Bool.{true}
 use mathlib.Core.List.{List, [], ◌∷◌}
 use native.Mathlib.Omega.{arith}
 use native.Mathlib.Nat.{eq-or-lt_of_le}
-use lib.Dec.{eqb, ltb}
+use lib.Dec.{eqb}
 use lib.ListN.{length, take, drop, get_or}
 use lib.Seq.{get_or-drop}
-use borrow.Author.Tests.{eqb-true, ltb-false, not-true}
+use borrow.Author.Tests.{eqb-true}
 use Rattle.std.proofs.lemmas.Bool.{and_parts}
+use Rattle.std.proofs.lemmas.Bool.Decides.{nat_tests}
 use Rattle.sheet.specs.IsRecorded.{is_fine, is_letter, entry_numbers, catalogue_fine, options_fine, orderings_fine, all_zero, within_limits, catalogue_recorded, options_recorded, orderings_recorded, is_recorded}
 use Rattle.sheet.specs.Limits.{catalogue_limit, option_limit, ordering_limit}
 use Rattle.sheet.specs.Judge.{judge_catalogue_line, judge_option, judge_ordering}
@@ -23,26 +24,19 @@ use Rattle.sheet.proofs.SlotLaws.{in_slot_of, not_in_slots, pair_not_in_slots}
 
 -- no section has too many lines
 pub limits_kept : (c o r : ℕ) → within_limits c o r ≡ true → (c ≤ catalogue_limit) × ((o ≤ option_limit) × (r ≤ ordering_limit))
-limits_kept c o r e =
-    let p = and_parts (not (ltb catalogue_limit c)) _ e in
-    let q = and_parts (not (ltb option_limit o)) _ p.1 in
-    (ltb-false catalogue_limit c (not-true _ p.0), (ltb-false option_limit o (not-true _ q.0), ltb-false ordering_limit r (not-true _ q.1)))
+limits_kept c o r e = grind (arith, nat_tests)
 
 pub recorded_limits : (s : Sheet) → is_recorded s ≡ true
     → (s.catalogue_lines ≤ catalogue_limit) × ((s.option_count ≤ option_limit) × (s.ordering_count ≤ ordering_limit))
 unfolding is_recorded
-recorded_limits s e = limits_kept _ _ _ (and_parts (within_limits s.catalogue_lines s.option_count s.ordering_count) _ e).0
+recorded_limits s e = grind (arith, nat_tests)
 
 fine_of : (v : Judged) → is_fine v ≡ true → v ≡ Fine
 fine_of Fine e = refl
 fine_of (Broken k c) e = cc
 
 letter_good : (c : ℕ) → is_letter c ≡ true → CatalogueLetter c
-letter_good c e = go (eqb c 67) refl e
-  where
-    go : (t : Bool) → eqb c 67 ≡ t → (t || eqb c 88) ≡ true → CatalogueLetter c
-    go true p q = inl (eqb-true c 67 p)
-    go false p q = inr (eqb-true c 88 q)
+letter_good c e = grind (arith, nat_tests)
 
 -- each of k entries from entry i on
 catalogue_each : (letters befores afters : List ℕ) (k i : ℕ) → catalogue_fine k i letters befores afters ≡ true → (j : ℕ) → i ≤ j → j < i + k
@@ -103,26 +97,18 @@ module _ (n : ℕ) (letters befores afters : List ℕ) (e : catalogue_recorded n
   catalogue_parts : (catalogue_fine n 0 letters befores afters ≡ true)
       × ((all_zero (drop n letters) ≡ true) × ((all_zero (drop n befores) ≡ true) × (all_zero (drop n afters) ≡ true)))
   unfolding catalogue_recorded
-  catalogue_parts =
-      let a = and_parts (catalogue_fine n 0 letters befores afters) _ e in
-      let b = and_parts (all_zero (drop n letters)) _ a.1 in
-      (a.0, (b.0, and_parts (all_zero (drop n befores)) _ b.1))
+  catalogue_parts = grind (arith, nat_tests)
 
 module _ (n : ℕ) (numbers weights : List ℕ) (e : options_recorded n numbers weights ≡ true) where
   options_parts : (options_fine n 0 numbers weights ≡ true) × ((all_zero (drop n numbers) ≡ true) × (all_zero (drop n weights) ≡ true))
   unfolding options_recorded
-  options_parts =
-      let a = and_parts (options_fine n 0 numbers weights) _ e in
-      (a.0, and_parts (all_zero (drop n numbers)) _ a.1)
+  options_parts = grind (arith, nat_tests)
 
 module _ (n : ℕ) (subscribed firsts seconds weights : List ℕ) (e : orderings_recorded n subscribed firsts seconds weights ≡ true) where
   orderings_parts : (orderings_fine n 0 subscribed firsts seconds weights ≡ true)
       × ((all_zero (drop n firsts) ≡ true) × ((all_zero (drop n seconds) ≡ true) × (all_zero (drop n weights) ≡ true)))
   unfolding orderings_recorded
-  orderings_parts =
-      let a = and_parts (orderings_fine n 0 subscribed firsts seconds weights) _ e in
-      let b = and_parts (all_zero (drop n firsts)) _ a.1 in
-      (a.0, (b.0, and_parts (all_zero (drop n seconds)) _ b.1))
+  orderings_parts = grind (arith, nat_tests)
 
 module _ (s : Sheet) (L : Lengths s) (e : is_recorded s ≡ true) where
   few : (s.catalogue_lines ≤ 512) × ((s.option_count ≤ 32) × (s.ordering_count ≤ 64))
@@ -135,10 +121,7 @@ module _ (s : Sheet) (L : Lengths s) (e : is_recorded s ≡ true) where
       × ((options_recorded s.option_count s.numbers s.weights ≡ true)
       × (orderings_recorded s.ordering_count (take s.option_count s.numbers) s.firsts s.seconds s.ordering_weights ≡ true))
   unfolding is_recorded
-  sections =
-      let a = and_parts (within_limits s.catalogue_lines s.option_count s.ordering_count) _ e in
-      let b = and_parts (catalogue_recorded s.catalogue_lines s.letters s.befores s.afters) _ a.1 in
-      (b.0, and_parts (options_recorded s.option_count s.numbers s.weights) _ b.1)
+  sections = grind (arith, nat_tests)
 
   catalogue_entry : (i : ℕ) → i < s.catalogue_lines → CatalogueLetter (letter s i) × CatalogueObeys (entry_numbers (before s i) (after s i) 0)
   catalogue_entry i h =

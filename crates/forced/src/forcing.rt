@@ -21,29 +21,25 @@ pub fn force(chart: &Chart, g: Given) -> Forced
 {
     let n = chart.option_count;
     let m = chart.ordering_count;
-    let first = &chart.firsts;
-    let second = &chart.seconds;
     let kept_orderings = g.kept_orderings;
-    let kept = kept_options(g.kept, kept_orderings, first, second, n, m);
-    let start = graph::put_orderings(chart.rows, kept_orderings, first, second, n, m);
-    let known = graph::join_through_all(start, kept, n);
-    let dropped = dropped_options(g.dropped, &known, n);
-    let dropped_orderings = dropped_orderings(
-        g.dropped_orderings,
-        dropped,
-        &known,
-        first,
-        second,
+    let kept = kept_options(chart, g.kept, kept_orderings);
+    let start = graph::put_orderings(
+        chart.rows,
+        kept_orderings,
+        &chart.firsts,
+        &chart.seconds,
         n,
         m,
     );
-    let contradiction = contradicts(kept, dropped, kept_orderings, dropped_orderings, n, m);
+    let known = graph::join_through_all(start, kept, n);
+    let dropped = dropped_options(g.dropped, &known, n);
+    let dropped_orderings = dropped_orderings(chart, g.dropped_orderings, dropped, &known);
     Forced {
         kept,
         dropped,
         kept_orderings,
         dropped_orderings,
         known,
-        contradiction,
+        contradiction: contradicts(kept, dropped, kept_orderings, dropped_orderings, n, m),
     }
 }

@@ -1,31 +1,23 @@
 // The forced decisions, part by part: each set follows from the sets before it.
-ghost use Rattle.std.specs.Prelude.{◌≡◌, ◌&&◌, ◌||◌, ◌+◌, ◌≤◌, ◌<◌, get_or};
+ghost use Rattle.std.specs.Prelude.{◌≡◌, ◌&&◌, ◌||◌, ◌≤◌, ◌<◌, get_or};
 ghost use Rattle.rules.specs.Slots.{some_below};
 ghost use Rattle.rows.specs.Bits.{has};
 ghost use Rattle.rows.specs.Sets.{Holds};
-ghost use Rattle.graph.specs.Graph.{EndsAreSlots};
 ghost use Rattle.forced.specs.Forced.{KeptWithEnds};
 
+use chart::Chart;
 use rows::Slots;
 
 // The kept options: those given, and both options of a kept ordering.
-pub fn kept_options(
-    given: u32,
-    kept_orderings: u64,
-    first: &[u8],
-    second: &[u8],
-    n: usize,
-    m: usize,
-) -> u32
-    requires { EndsAreSlots n m first.now second.now }
-    ensures { KeptWithEnds given kept_orderings first.now second.now m result }
+pub fn kept_options(chart: &Chart, given: u32, kept_orderings: u64) -> u32
+    ensures { KeptWithEnds given kept_orderings chart.now.firsts chart.now.seconds chart.now.ordering_count result }
 {
     let mut kept = given;
-    for u in 0..m {
+    for u in 0..chart.ordering_count {
         let yes = kept_orderings.get(u);
-        let a = usize::from(first[u]);
-        let b = usize::from(second[u]);
-        kept = kept.put_if(a, yes).put_if(b, yes);
+        let first = usize::from(chart.firsts[u]);
+        let second = usize::from(chart.seconds[u]);
+        kept = kept.put_if(first, yes).put_if(second, yes);
     }
     kept
 }
@@ -47,20 +39,13 @@ pub fn is_against(dropped: u32, t: &[u32; 32], a: usize, b: usize) -> bool
 }
 
 // The dropped orderings: those given, and those against what is known.
-pub fn dropped_orderings(
-    given: u64,
-    dropped: u32,
-    t: &[u32; 32],
-    first: &[u8],
-    second: &[u8],
-    n: usize,
-    m: usize,
-) -> u64
-    requires { EndsAreSlots n m first.now second.now }
-    ensures { Holds result m (λ u. has given u || (has dropped (get_or first.now u 0) || (has dropped (get_or second.now u 0) || has (get_or t.now (get_or second.now u 0) 0) (get_or first.now u 0)))) }
+pub fn dropped_orderings(chart: &Chart, given: u64, dropped: u32, t: &[u32; 32]) -> u64
+    ensures { Holds result chart.now.ordering_count (λ u. has given u || (has dropped (get_or chart.now.firsts u 0) || (has dropped (get_or chart.now.seconds u 0) || has (get_or t.now (get_or chart.now.seconds u 0) 0) (get_or chart.now.firsts u 0)))) }
 {
-    rows::set_where(m, |u| {
-        given.get(u) || is_against(dropped, t, usize::from(first[u]), usize::from(second[u]))
+    rows::set_where(chart.ordering_count, |u| {
+        let first = usize::from(chart.firsts[u]);
+        let second = usize::from(chart.seconds[u]);
+        given.get(u) || is_against(dropped, t, first, second)
     })
 }
 

@@ -1,5 +1,5 @@
 -- What sequencing works out about a full decision, in the words of the rules.
-use Rattle.std.specs.Prelude.{◌≡◌, Bool, true, false, not, ◌&&◌, cond, List, [], map, ℕ, ◌<◌, get_or}
+use Rattle.std.specs.Prelude.{◌≡◌, Bool, not, ◌&&◌, cond, Option, Some, None, List, map, ℕ, ◌<◌, get_or}
 use Rattle.rules.specs.Slots.{some_below}
 use Rattle.rules.specs.Subscription.{Subscription}
 use Rattle.rows.specs.Sets.{Holds}
@@ -10,7 +10,7 @@ use Rattle.rules.specs.Relaxation.{KeptBySlot}
 use Rattle.sequence.specs.Padded.{places_of}
 use Rattle.chart.specs.declared.chart.Chart.{Chart}
 use Rattle.given.specs.declared.sets.Given.{Given}
-use Rattle.sequence.specs.declared.whole.Placed.{Placed}
+use Rattle.sheet.specs.declared.count.Number.{Number}
 
 -- Is the choice c a consistent relaxation?
 unfoldable pub is_consistent_as : Subscription → KeptBySlot → Bool
@@ -19,11 +19,9 @@ is_consistent_as v c = not (some_below v.ordering_count (lacks_an_option v c)) &
 abbrev pub sequence_as : Subscription → KeptBySlot → List ℕ
 sequence_as v c = map v.number (placed v.number (precedes v c) v.option_count (kept_slots v c))
 
-abbrev pub not_consistent : Placed
-not_consistent = record { consistent = false; places = places_of 32 [] }
-
-unfoldable pub placed_as : Subscription → KeptBySlot → Placed
-placed_as v c = cond (is_consistent_as v c) (record { consistent = true; places = places_of 32 (sequence_as v c) }) not_consistent
+-- The places, zeros past the last, if the choice is a consistent relaxation.
+unfoldable pub placed_as : Subscription → KeptBySlot → Option (List Number)
+placed_as v c = cond (is_consistent_as v c) (Some (places_of 32 (sequence_as v c))) None
 
 -- The sets are those of the choice.
 pub record Keeps (c : KeptBySlot) (n m : ℕ) (g : Given) : Type 0 where
@@ -31,6 +29,6 @@ pub record Keeps (c : KeptBySlot) (n m : ℕ) (g : Given) : Type 0 where
   pub ordering : Holds g.kept_orderings m c.ordering
 
 -- Whatever subscription the chart shows with these numbers, and whatever choice the sets are.
-abbrev pub PlacedBy : Chart → (numbers : List ℕ) → Given → Placed → Type 0
+abbrev pub PlacedBy : Chart → (numbers : List ℕ) → Given → Option (List Number) → Type 0
 PlacedBy chart numbers g r = let n = chart.option_count in let m = chart.ordering_count in
     (v : Subscription) (c : KeptBySlot) → Shows v n m chart.firsts chart.seconds chart.rows → ((i : ℕ) → i < n → v.number i ≡ get_or numbers i 0) → Keeps c n m g → r ≡ placed_as (counted n m v) c

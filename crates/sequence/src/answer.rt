@@ -3,7 +3,6 @@ ghost use Rattle.std.specs.Prelude.{◌≡◌};
 ghost use Rattle.sequence.specs.Answer.{sequence_refused, sequence_answer};
 
 use crate::whole::sequence_of;
-use shape::Place;
 use sheet::{Answer, Decisions, Number, Refusal, Sheet};
 
 #[derive(Clone, Copy)]
@@ -15,12 +14,9 @@ pub struct Sequenced {
 fn refused(why: Refusal) -> Sequenced
     ensures { result ≡ sequence_refused why }
 {
-    let z = Number(0);
-    let p = Place { line: 0, column: 0 };
-    let a = Answer::Refused { place: p, why: why };
     Sequenced {
-        answer: a,
-        places: [z; 32],
+        answer: Answer::refused(why),
+        places: [Number(0); 32],
     }
 }
 
@@ -34,23 +30,16 @@ pub fn sequence(sheet: Sheet, decisions: Decisions) -> Sequenced
     if !record::is_recorded(sheet) {
         return refused(Refusal::NotRecorded);
     }
-    if given::has_decision_past(decisions, n, m) {
-        return refused(Refusal::WrongDecisions);
-    }
-    if given::has_open_item(decisions, n, m) {
+    if given::has_decision_past(decisions, n, m) || given::has_open_item(decisions, n, m) {
         return refused(Refusal::WrongDecisions);
     }
     let chart = subscription::chart_of(&sheet);
-    let g = given::given_sets(decisions, n, m);
-    let p = sequence_of(&chart, &sheet.numbers, g);
-    let consistent = p.consistent;
-    if !consistent {
+    let sets = given::given_sets(decisions, n, m);
+    let Some(places) = sequence_of(&chart, &sheet.numbers, sets) else {
         return refused(Refusal::NotConsistent);
-    }
-    let s = p.places;
-    let a = Answer::Accepted;
+    };
     Sequenced {
-        answer: a,
-        places: s,
+        answer: Answer::Accepted,
+        places,
     }
 }

@@ -2,72 +2,41 @@
 ghost use Rattle.std.specs.Prelude.{◌≡◌, ◌≤◌};
 ghost use Rattle.rules.specs.Slots.{some_below};
 ghost use Rattle.rows.specs.Sets.{cell};
-ghost use Rattle.graph.specs.Graph.{EndsAreSlots};
 ghost use Rattle.sequence.specs.Edges.{BetweenKept, lacks};
 
+use chart::Chart;
 use rows::Slots;
 
 // The table without the rows and columns of options that are not kept.
-pub fn between_kept(t: [u32; 32], kept: u32, n: usize) -> [u32; 32]
+pub fn between_kept(t: &[u32; 32], kept: u32, n: usize) -> [u32; 32]
     requires { n ≤ 32 }
-    ensures { BetweenKept t kept n result }
+    ensures { BetweenKept t.now kept n result }
 {
-    let mut k: [u32; 32] = [0; 32];
-    let mut i: usize = 0;
-    while i < n {
-        let row = t[i];
-        let x = rows::meet(row, kept);
-        let yes = kept.get(i);
-        let y = rows::join_if(0, x, yes);
-        k[i] = y;
-        i += 1;
+    let mut between = [0u32; 32];
+    for i in 0..n {
+        between[i] = rows::join_if(0, rows::meet(t[i], kept), kept.get(i));
     }
-    k
+    between
 }
 
 // Does a kept ordering lack one of its options?
-pub fn lacks_option(
-    kept: u32,
-    kept_orderings: u64,
-    first: &[u8],
-    second: &[u8],
-    n: usize,
-    m: usize,
-) -> bool
-    requires { EndsAreSlots n m first.now second.now }
-    ensures { result ≡ some_below m (lacks kept kept_orderings first.now second.now) }
+#[tactic(auto, using(rows::specs::laws::Slots::some_more), unfolding(rules::specs::Slots::some_below))]
+pub fn lacks_option(chart: &Chart, kept: u32, kept_orderings: u64) -> bool
+    ensures { result ≡ some_below chart.now.ordering_count (lacks kept kept_orderings chart.now.firsts chart.now.seconds) }
 {
-    let mut r = false;
-    let mut u: usize = 0;
-    while u < m {
-        let a = first[u] as usize;
-        let b = second[u] as usize;
-        let x = kept.get(a);
-        let y = kept.get(b);
-        let z = rows::both(x, y);
-        let o = rows::opposite(z);
-        let k = kept_orderings.get(u);
-        let w = rows::both(k, o);
-        let e = rows::either(r, w);
-        r = e;
-        u += 1;
+    let mut lacking = false;
+    for u in 0..chart.ordering_count {
+        let first = usize::from(chart.firsts[u]);
+        let second = usize::from(chart.seconds[u]);
+        lacking = lacking || kept_orderings.get(u) && !(kept.get(first) && kept.get(second));
     }
-    r
+    lacking
 }
 
 // Does an option stand before itself?
-pub fn has_cycle(t: [u32; 32], n: usize) -> bool
+pub fn has_cycle(t: &[u32; 32], n: usize) -> bool
     requires { n ≤ 32 }
-    ensures { result ≡ some_below n (λ i. cell t i i) }
+    ensures { result ≡ some_below n (λ i. cell t.now i i) }
 {
-    let mut r = false;
-    let mut i: usize = 0;
-    while i < n {
-        let row = t[i];
-        let x = row.get(i);
-        let e = rows::either(r, x);
-        r = e;
-        i += 1;
-    }
-    r
+    t.iter().take(n).enumerate().any(|(i, row)| row.get(i))
 }

@@ -1,7 +1,7 @@
 -- What is worked out by slot is what the rules give for the sheet and the full decision.
 use Rattle.std.proofs.Math.Path.{◌≡◌, refl, sym, ap}
 use Rattle.std.proofs.Common.{◌∙◌, arith, eq-eqb}
-use Rattle.std.specs.Prelude.{Bool, List, ℕ, length, take, drop}
+use Rattle.std.specs.Prelude.{Bool, Option, Some, None, List, ℕ, length, take, drop}
 use Rattle.std.proofs.Math.Bool.{true, false, cond}
 use Rattle.std.proofs.Math.Option.{none, some}
 use Rattle.rules.specs.Lines.{Lines}
@@ -12,7 +12,7 @@ use Rattle.given.specs.Given.{decided_as, Gives, decided_past, open_within, deci
 use Rattle.rules.specs.Results.{sequence_of, is_consistent, numbers_in_sequence, sequence_of_choice, is_relaxation}
 use Rattle.rules.specs.Relaxation.{KeptBySlot, kept_by_slot}
 use Rattle.sequence.specs.Padded.{places_of}
-use Rattle.sequence.specs.Sequenced.{is_consistent_as, sequence_as, not_consistent, placed_as, PlacedBy}
+use Rattle.sequence.specs.Sequenced.{is_consistent_as, sequence_as, placed_as, PlacedBy}
 use Rattle.subscription.specs.Charted.{Charted}
 use Rattle.given.specs.laws.List.{gives_list, length_decision_list, no_open_item}
 use Rattle.sequence.specs.Answer.{sequence_refused, sequence_accepted, sequence_shown, sequence_answer}
@@ -24,7 +24,7 @@ use Rattle.rules.specs.Decisions as R
 use Rattle.rules.specs.laws.Decisions.{just_the_kept, just_the_kept_at, take_just_the_kept, drop_just_the_kept, length_just_the_kept, full_choice_is}
 use Rattle.given.specs.declared.sets.Given.{Given}
 use Rattle.chart.specs.declared.chart.Chart.{Chart}
-use Rattle.sequence.specs.declared.whole.Placed.{Placed}
+use Rattle.sheet.specs.declared.count.Number.{Number}
 use Rattle.sheet.specs.declared.answer.Refusal.TheVariants.{NotRecorded, WrongDecisions, NotConsistent}
 use Rattle.sheet.specs.declared.sheet.Sheet.{Sheet}
 use Rattle.sheet.specs.declared.decision.Decisions.{Decisions}
@@ -52,21 +52,21 @@ module _ (s : Lines) (l : List R.Decision) (full : R.open_items l ≡ 0) (size :
   unfolding sequence_of sequence_of_choice numbers_in_sequence subscription
   sequence_told = rw (full_choice_is l full, consistent_told) refl
 
-  pub placed_told : {p : Placed} → p ≡ placed_as v c → p.consistent ≡ true → sequence_shown (sequence_of s l) ≡ sequence_accepted p.places
+  pub placed_told : {l' : List Number} → Some l' ≡ placed_as v c → sequence_shown (sequence_of s l) ≡ sequence_accepted l'
   unfolding placed_as
-  placed_told {p} e f = ap sequence_shown sequence_told ∙ go (is_consistent_as v c) (e) f
+  placed_told {l'} e = ap sequence_shown sequence_told ∙ go (is_consistent_as v c) e
     where
-      go : (x : Bool) → p ≡ cond x (record { consistent = true; places = places_of 32 (sequence_as v c) }) not_consistent → p.consistent ≡ true → sequence_shown (cond x (some (sequence_as v c)) none) ≡ sequence_accepted p.places
-      go true e f = ap sequence_accepted (sym (ap (λ z. z.places) e))
-      go false e f = let z : ◌≡◌ {A = Bool} false true = sym (ap (λ w. w.consistent) e) ∙ f in let w : ◌≡◌ {A = ℕ} 0 1 = cc in absurd (omega arith)
+      go : (x : Bool) → Some l' ≡ cond x (Some (places_of 32 (sequence_as v c))) None → sequence_shown (cond x (some (sequence_as v c)) none) ≡ sequence_accepted l'
+      go true e = let f : places_of 32 (sequence_as v c) ≡ l' = cc in ap sequence_accepted f
+      go false e = let w : ◌≡◌ {A = ℕ} 0 1 = cc in absurd (omega arith)
 
-  pub not_placed_told : {p : Placed} → p ≡ placed_as v c → p.consistent ≡ false → sequence_shown (sequence_of s l) ≡ sequence_refused NotConsistent
+  pub not_placed_told : None ≡ placed_as v c → sequence_shown (sequence_of s l) ≡ sequence_refused NotConsistent
   unfolding placed_as
-  not_placed_told {p} e f = ap sequence_shown sequence_told ∙ go (is_consistent_as v c) (e) f
+  not_placed_told e = ap sequence_shown sequence_told ∙ go (is_consistent_as v c) e
     where
-      go : (x : Bool) → p ≡ cond x (record { consistent = true; places = places_of 32 (sequence_as v c) }) not_consistent → p.consistent ≡ false → sequence_shown (cond x (some (sequence_as v c)) none) ≡ sequence_refused NotConsistent
-      go false e f = refl
-      go true e f = let z : ◌≡◌ {A = Bool} true false = sym (ap (λ w. w.consistent) e) ∙ f in let w : ◌≡◌ {A = ℕ} 0 1 = cc in absurd (omega arith)
+      go : (x : Bool) → None ≡ cond x (Some (places_of 32 (sequence_as v c))) None → sequence_shown (cond x (some (sequence_as v c)) none) ≡ sequence_refused NotConsistent
+      go false e = refl
+      go true e = let w : ◌≡◌ {A = ℕ} 0 1 = cc in absurd (omega arith)
 
 -- ---- the public function
 pub sequence_not_recorded : (s : Sheet) (d : Decisions) → is_recorded s ≡ false → sequence_refused NotRecorded ≡ sequence_answer s d
@@ -83,7 +83,7 @@ sequence_open_within s d e f g = rw (e, f, g) refl
 
 module _ (s : Sheet) (d : Decisions) (e : is_recorded s ≡ true)
     (past : decided_past d s.option_count s.ordering_count ≡ false) (open_items : open_within d s.option_count s.ordering_count ≡ false)
-    (chart : Chart) (g : Given) (p : Placed) (charted : Charted s chart)
+    (chart : Chart) (g : Given) (p : Option (List Number)) (charted : Charted s chart)
     (gives : Gives (decided_as d) s.option_count s.ordering_count g)
     (by : PlacedBy chart s.numbers g p) where
   abbrev n : ℕ
@@ -119,8 +119,8 @@ module _ (s : Sheet) (d : Decisions) (e : is_recorded s ≡ true)
   unfolding sequence_answer
   answered = rw (e, past, open_items) refl
 
-  pub sequence_found : p.consistent ≡ true → sequence_accepted p.places ≡ sequence_answer s d
-  sequence_found q = sym (answered ∙ placed_told (lines_of s) list full size placed_out q)
+  pub sequence_found : {places : List Number} → p ≡ Some places → sequence_accepted places ≡ sequence_answer s d
+  sequence_found q = sym (answered ∙ placed_told (lines_of s) list full size (sym q ∙ placed_out))
 
-  pub sequence_missing : p.consistent ≡ false → sequence_refused NotConsistent ≡ sequence_answer s d
-  sequence_missing q = sym (answered ∙ not_placed_told (lines_of s) list full size placed_out q)
+  pub sequence_missing : p ≡ None → sequence_refused NotConsistent ≡ sequence_answer s d
+  sequence_missing q = sym (answered ∙ not_placed_told (lines_of s) list full size (sym q ∙ placed_out))

@@ -1,5 +1,5 @@
 -- The parts that the code works out are the sequence of the rules, or that there is none.
-use Rattle.std.specs.Prelude.{◌≡◌, Bool, ◌&&◌, ℕ, ◌<◌, get_or, replicate}
+use Rattle.std.specs.Prelude.{◌≡◌, Bool, ◌&&◌, Some, None, ℕ, ◌<◌, get_or, replicate}
 use Rattle.std.proofs.Math.Path.{refl, sym, ap}
 use Rattle.std.proofs.Common.{◌∙◌, arith}
 use Rattle.std.proofs.Math.Bool.{true, false, not, cond}
@@ -22,11 +22,10 @@ use Rattle.placing.specs.Next.{number_at, numbers_placed, number, written}
 use Rattle.sequence.specs.Edges.{BetweenKept, lacks}
 use Rattle.sequence.specs.Padded.{places_of}
 use Rattle.sequence.specs.laws.Padded.{written_padded}
-use Rattle.sequence.specs.Sequenced.{is_consistent_as, sequence_as, not_consistent, placed_as, Keeps, PlacedBy}
+use Rattle.sequence.specs.Sequenced.{is_consistent_as, sequence_as, placed_as, Keeps, PlacedBy}
 use Rattle.sequence.specs.laws.Same.{numbers_same, few_numbers}
 use Rattle.chart.specs.declared.chart.Chart.{Chart}
 use Rattle.given.specs.declared.sets.Given.{Given}
-use Rattle.sequence.specs.declared.whole.Placed.{Placed}
 use Rattle.sheet.specs.declared.count.Number.{Number}
 
 module _ (chart : Chart) (numbers : List ℕ) (g : Given) (between edges paths : List ℕ)
@@ -91,22 +90,22 @@ module _ (chart : Chart) (numbers : List ℕ) (g : Given) (between edges paths :
         ∙ numbers_same n (number_at numbers) v.number (cell edges) (precedes s c) (λ i l. sym (numbered i l)) edge_is n (kept_slots s c) within
 
   -- ---- the three ways out
-  pub lacks_placed : {x : Bool} {r : Placed} → x ≡ some_below m (lacks g.kept g.kept_orderings firsts seconds) → x ≡ true → r ≡ not_consistent → PlacedBy chart numbers g r
+  pub lacks_placed : {x : Bool} → x ≡ some_below m (lacks g.kept g.kept_orderings firsts seconds) → x ≡ true → PlacedBy chart numbers g None
   unfolding placed_as is_consistent_as
-  lacks_placed {x} {r} e f q v c shows numbered keeps = q ∙ rw (sym (lacks_is v c shows numbered keeps) ∙ sym e ∙ f) refl
+  lacks_placed {x} e f v c shows numbered keeps = rw (sym (lacks_is v c shows numbered keeps) ∙ sym e ∙ f) refl
 
-  pub cycle_placed : {y : Bool} {r : Placed} → y ≡ some_below n (λ i. cell paths i i) → y ≡ true → r ≡ not_consistent → PlacedBy chart numbers g r
+  pub cycle_placed : {y : Bool} → y ≡ some_below n (λ i. cell paths i i) → y ≡ true → PlacedBy chart numbers g None
   unfolding placed_as is_consistent_as
-  cycle_placed {y} {r} e f q v c shows numbered keeps = q ∙ rw (sym (acyclic_is v c shows numbered keeps), ← e, f) (go (some_below m (lacks_an_option (counted n m v) c)))
+  cycle_placed {y} e f v c shows numbered keeps = rw (sym (acyclic_is v c shows numbered keeps), ← e, f) (go (some_below m (lacks_an_option (counted n m v) c)))
     where
-      go : (x : Bool) → not_consistent ≡ cond (not x && false) (record { consistent = true; places = places_of 32 (sequence_as (counted n m v) c) }) not_consistent
+      go : (x : Bool) → None ≡ cond (not x && false) (Some (places_of 32 (sequence_as (counted n m v) c))) None
       go true = refl
       go false = refl
 
   pub sequence_placed : {x y : Bool} {l : List Number} → x ≡ some_below m (lacks g.kept g.kept_orderings firsts seconds) → x ≡ false → y ≡ some_below n (λ i. cell paths i i) → y ≡ false
-      → l ≡ written (replicate 32 (number 0)) 0 (numbers_placed edges numbers n n g.kept) → PlacedBy chart numbers g (record { consistent = true; places = l })
+      → l ≡ written (replicate 32 (number 0)) 0 (numbers_placed edges numbers n n g.kept) → PlacedBy chart numbers g (Some l)
   unfolding placed_as is_consistent_as numbers_placed
-  sequence_placed {x} {y} {l} ex fx ey fy el v c shows numbered keeps = rw (sym (lacks_is v c shows numbered keeps) ∙ sym ex ∙ fx, sym (acyclic_is v c shows numbered keeps), ← ey, fy) (ap (λ z. record { consistent = true; places = z }) places_are)
+  sequence_placed {x} {y} {l} ex fx ey fy el v c shows numbered keeps = rw (sym (lacks_is v c shows numbered keeps) ∙ sym ex ∙ fx, sym (acyclic_is v c shows numbered keeps), ← ey, fy) (ap Some places_are)
     where
       places_are : l ≡ places_of 32 (sequence_as (counted n m v) c)
       places_are = el ∙ written_padded 32 (numbers_placed edges numbers n n g.kept) (let a = few_numbers (number_at numbers) (number_at numbers) (cell edges) n (slots n (has g.kept)) in let b = ends.few_options in omega arith) ∙ ap (places_of 32) (sequence_is v c shows numbered keeps)

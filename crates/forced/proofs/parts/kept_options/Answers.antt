@@ -6,4 +6,4 @@ pub loop-u-init : goal.loop-u-init
 loop-u-init c = kept_with_ends_none _ _ _ _
 
 pub loop-u-preserved : goal.loop-u-preserved
-loop-u-preserved c = kept_with_ends_step _ _ _ _ c.loop-u.invariant c.get-yes.ensures c.from-a.ensures c.from-b.ensures c.put_if.ensures c.put_if-kept.ensures
+loop-u-preserved c = kept_with_ends_step _ _ _ _ c.loop-u.invariant c.get-yes.ensures c.from-first.ensures c.from-second.ensures c.put_if.ensures c.put_if-kept.ensures

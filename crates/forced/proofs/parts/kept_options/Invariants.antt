@@ -3,4 +3,4 @@ use Rattle.forced.specs.Forced.{KeptWithEnds}
 use Rattle.forced.proofs.parts.kept_options.Given as goal
 
 abbrev pub invariant-loop-u : goal.invariant-loop-u
-invariant-loop-u l = KeptWithEnds l.given l.kept_orderings l.first l.second l.u l.kept
+invariant-loop-u l = KeptWithEnds l.given l.kept_orderings l.chart.firsts l.chart.seconds l.u l.kept

@@ -5,4 +5,4 @@ use Rattle.sheet.specs.declared.answer.Answer.TheVariants.{Refused}
 use Rattle.sequence.proofs.answer.refused.Goals as goal
 
 pub returns : goal.returns
-returns c = ap (λ l. record { answer = Refused (record { line = 0; column = 0 }) c.args.why; places = l }) (zeros_are_padded 32)
+returns c = rw c.refused.ensures (ap (λ l. record { answer = Refused (record { line = 0; column = 0 }) c.args.why; places = l }) (zeros_are_padded 32))

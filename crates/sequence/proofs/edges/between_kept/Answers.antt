@@ -4,4 +4,4 @@ use Rattle.sequence.specs.laws.Edges.{between_step}
 use Rattle.sequence.proofs.edges.between_kept.Goals as goal
 
 pub loop-i-preserved : goal.loop-i-preserved
-loop-i-preserved c = (omega arith, between_step _ _ c.loop-i.invariant.1 (omega arith) c.meet-x.ensures c.get-yes.ensures c.join_if-y.ensures)
+loop-i-preserved c = between_step _ _ c.loop-i.invariant (omega arith) c.meet.ensures c.get.ensures c.join_if.ensures

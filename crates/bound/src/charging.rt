@@ -10,30 +10,31 @@ use chart::Chart;
 use hints::{hints_after, hints_of, next_holding, next_item};
 use residual::{Left, start};
 
-// A round of charges: what is open, how many items a chain may have, and how much is enough.
+// What is open, and how much is enough.
 #[derive(Clone, Copy)]
 pub struct Round {
     pub options: u32,
     pub orderings: u64,
-    pub most: usize,
     pub enough: u32,
 }
 
-// A chain through item x, if one is found: what is charged for it.
+// A chain of at most `most` items through item x, if one is found: what is charged for it.
 fn charge_one(
     chart: &Chart,
     known: &[u32; 32],
     after: &[u32; 32],
-    r: Round,
-    h: &Hints,
+    hints: &Hints,
     x: usize,
+    most: usize,
     left: &mut Left,
 ) -> u32
-    requires { (r.most ≤ 60) × LeftFor chart.now left.old }
+    requires { (most ≤ 60) × LeftFor chart.now left.old }
     ensures { ChargesMore chart.now known.now result left.old left.new }
 {
-    let c = find(chart, known, after, h, &left.orderings, x, r.most);
-    charge(chart, known, &c.items[..c.len], left)
+    let Some(chain) = find(chart, known, after, hints, &left.orderings, x, most) else {
+        return 0;
+    };
+    charge(chart, known, chain.items(), left)
 }
 
 // As long as there are chains through an item, then through the next. Each takes all that one of its members holds, so 96 items leave at most
@@ -42,26 +43,25 @@ fn charge_items(
     chart: &Chart,
     known: &[u32; 32],
     after: &[u32; 32],
-    r: Round,
+    round: Round,
+    most: usize,
     left: &mut Left,
-    h: &mut Hints,
+    hints: &mut Hints,
 )
-    requires { (r.most ≤ 60) × (r.enough ≤ largest_sum + 1) × LeftFor chart.now left.old × (h.old.charged ≤ 10551136) }
-    ensures { KeepsCharged chart.now known.now h.old.charged h.new.charged left.old left.new }
+    requires { (most ≤ 60) × (round.enough ≤ largest_sum + 1) × LeftFor chart.now left.old × (hints.old.charged ≤ 10551136) }
+    ensures { KeepsCharged chart.now known.now hints.old.charged hints.new.charged left.old left.new }
 {
     let mut x: usize = 0;
-    let mut turns: usize = 192;
-    while turns > 0 {
-        if r.enough <= h.charged {
+    for _ in 0..192 {
+        if round.enough <= hints.charged {
             return;
         }
-        let Some(y) = next_holding(h.positive, &left.orderings, chart.ordering_count, x) else {
+        let Some(y) = next_holding(hints.positive, &left.orderings, chart.ordering_count, x) else {
             return;
         };
-        let e = charge_one(chart, known, after, r, &*h, y, left);
-        hints_after(chart, h, e, r.options, r.orderings, &*left);
+        let e = charge_one(chart, known, after, &*hints, y, most, left);
+        hints_after(chart, hints, e, round.options, round.orderings, &*left);
         x = next_item(y, e);
-        turns -= 1;
     }
 }
 
@@ -70,20 +70,17 @@ fn charge_rounds(
     chart: &Chart,
     known: &[u32; 32],
     after: &[u32; 32],
-    r: Round,
+    round: Round,
     left: &mut Left,
 ) -> u32
-    requires { (r.most ≤ 60) × (r.enough ≤ largest_sum + 1) × LeftFor chart.now left.old }
+    requires { (round.enough ≤ largest_sum + 1) × LeftFor chart.now left.old }
     ensures { KeepsCharged chart.now known.now 0 result left.old left.new }
 {
-    let mut h = hints_of(chart, r.options, r.orderings, &*left, 0);
-    let mut q = r;
-    charge_items(chart, known, after, q, left, &mut h);
-    q.most = 3;
-    charge_items(chart, known, after, q, left, &mut h);
-    q.most = 60;
-    charge_items(chart, known, after, q, left, &mut h);
-    h.charged
+    let mut hints = hints_of(chart, round.options, round.orderings, &*left, 0);
+    charge_items(chart, known, after, round, 2, left, &mut hints);
+    charge_items(chart, known, after, round, 3, left, &mut hints);
+    charge_items(chart, known, after, round, 60, left, &mut hints);
+    hints.charged
 }
 
 // What was charged, and what is left of each item's weight.
@@ -106,18 +103,14 @@ pub fn bound(
     ensures { BoundedAs chart.now known.now open_options open_orderings result }
 {
     let mut left = start(chart, open_options, open_orderings);
-    let mut e: u32 = 0;
+    let mut charged: u32 = 0;
     if enough > 0 {
-        let r = Round {
+        let round = Round {
             options: open_options,
             orderings: open_orderings,
-            most: 2,
-            enough: enough,
+            enough,
         };
-        e = charge_rounds(chart, known, after, r, &mut left);
+        charged = charge_rounds(chart, known, after, round, &mut left);
     }
-    Charged {
-        charged: e,
-        left: left,
-    }
+    Charged { charged, left }
 }

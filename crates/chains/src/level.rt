@@ -1,101 +1,116 @@
 // The levels of a walk through open items: which options are reached, and at which options open orderings end.
-ghost use Rattle.std.specs.Prelude.{◌≤◌, ◌<◌, length};
+ghost use Rattle.std.specs.Prelude.{◌+◌, ◌≤◌, ◌<◌, length, IfSome};
 
-use crate::member::{fresh, lowest, without_lowest};
+use crate::chain::Hints;
+use crate::member::end_of;
+use chart::Chart;
+use rows::{Ones, Slots};
 
-// How far the walk is: what is known after the items of the level before, where open orderings may begin, what was met, and the level itself.
+// How far the walk is: what is known after the items of the level before, where open orderings may begin, and what was met.
 #[derive(Clone, Copy)]
 pub struct Front {
     pub reach: u32,
     pub from: u32,
     pub met_options: u32,
     pub met_seconds: u32,
-    pub options: u32,
-    pub seconds: u32,
 }
 
-// What closes the chain: options known before its beginning, and the ends of orderings from which it goes on there.
+// One level: the options in it, the ends of the orderings in it, and where those may begin.
+#[derive(Clone, Copy)]
+pub struct Level {
+    pub options: u32,
+    pub seconds: u32,
+    pub from: u32,
+}
+
+// What leads to the beginning of an item: options known before it, and the ends of orderings from which it goes on there.
 #[derive(Clone, Copy)]
 pub struct Goal {
     pub before: u32,
     pub ends: u32,
 }
 
+// Orderings that end where an ordering begins count; at an option only those that end before it.
+pub fn goal_of(chart: &Chart, after: &[u32; 32], item: usize) -> Goal
+    requires { item < 32 + chart.now.ordering_count }
+{
+    let beginning = end_of(&chart.firsts, chart.ordering_count, item);
+    let before = after[beginning];
+    Goal {
+        before,
+        ends: before.put_if(beginning, item >= 32),
+    }
+}
+
+impl Level {
+    pub fn is_empty(self) -> bool {
+        self.options | self.seconds == 0
+    }
+
+    // The part of the level that leads to a goal.
+    pub fn leading_to(self, goal: Goal) -> Level {
+        Level {
+            options: self.options & goal.before,
+            seconds: self.seconds & goal.ends,
+            from: self.from,
+        }
+    }
+}
+
 // The rows of every member of a set, joined.
-pub fn joined_rows(t: &[u32], set: u32) -> u32
-    requires { 32 ≤ length t.now }
-{
-    let mut k: u32 = 0;
-    let mut left = set;
-    while left > 0 {
-        let i = lowest(left);
-        k = k | t[i];
-        left = without_lowest(left);
+fn joined_rows(table: &[u32; 32], set: u32) -> u32 {
+    let mut joined: u32 = 0;
+    for i in Ones(set) {
+        joined |= table[i];
     }
-    k
+    joined
 }
 
-// The next level: open options that are reached, and ends of open orderings that begin there, each met for the first time.
-fn level(soft: &[u32], positive: u32, f: Front) -> Front
-    requires { 32 ≤ length soft.now }
-{
-    let options = f.reach & positive;
-    let seconds = joined_rows(soft, f.from);
-    Front {
-        reach: f.reach,
-        from: f.from,
-        met_options: f.met_options | options,
-        met_seconds: f.met_seconds | seconds,
-        options: fresh(options, f.met_options),
-        seconds: fresh(seconds, f.met_seconds),
+impl Front {
+    // The next level: open options that are reached, and ends of open orderings that begin there, each met for the first time.
+    pub fn level(self, hints: &Hints) -> Level {
+        Level {
+            options: self.reach & hints.positive & !self.met_options,
+            seconds: joined_rows(&hints.soft, self.from) & !self.met_seconds,
+            from: self.from,
+        }
     }
-}
 
-// What is known after the items of a level.
-fn onwards(known: &[u32], f: Front) -> Front
-    requires { 32 ≤ length known.now }
-{
-    let reach = joined_rows(known, f.options | f.seconds);
-    Front {
-        reach,
-        from: reach | f.seconds,
-        met_options: f.met_options,
-        met_seconds: f.met_seconds,
-        options: f.options,
-        seconds: f.seconds,
+    // What is known after the items of a level.
+    fn after(self, known: &[u32; 32], level: Level) -> Front {
+        let reach = joined_rows(known, level.options | level.seconds);
+        Front {
+            reach,
+            from: reach | level.seconds,
+            met_options: self.met_options | level.options,
+            met_seconds: self.met_seconds | level.seconds,
+        }
     }
 }
 
-// Writes the levels down until one closes the chain, and gives its number; 0 where none does.
-// Level l has its options at l, the ends of its orderings at 64 + l, and the beginnings of the next one's at 128 + l.
+// Writes the levels down, from 1 on and fewer than `most`, until one closes the chain, and gives its number.
 pub fn levels(
-    known: &[u32],
-    soft: &[u32],
-    positive: u32,
-    f: Front,
+    known: &[u32; 32],
+    hints: &Hints,
+    first: Front,
     goal: Goal,
     most: usize,
-    page: &mut [u32; 192],
-) -> usize
-    requires { (32 ≤ length known.now) × (32 ≤ length soft.now) × (most ≤ 60) }
-    ensures { result < 60 }
+    page: &mut [Level; 64],
+) -> Option<usize>
+    requires { most ≤ 60 }
+    ensures { IfSome result (λ l. l < 60) }
 {
-    let mut k = f;
-    let mut l: usize = 1;
-    page[128] = k.from;
-    while l < most {
-        let g = level(soft, positive, k);
-        page[l] = g.options;
-        page[64 + l] = g.seconds;
-        if (g.options & goal.before) | (g.seconds & goal.ends) > 0 {
-            return l;
+    let mut front = first;
+    for l in 1..most {
+        let level = front.level(hints);
+        page[l] = level;
+        if !level.leading_to(goal).is_empty() {
+            return Some(l);
         }
-        if g.options | g.seconds == 0 || l + 1 == most {
-            return 0;
+        if level.is_empty() || l + 1 == most {
+            return None;
         }
-        k = onwards(known, g);
-        page[128 + l] = k.from;
-        l += 1;
+        front = front.after(known, level);
     }
-    0
+    None
 }

@@ -9,5 +9,5 @@ mod member;
 mod walk;
 
 pub use chain::{Chain, Hints, find};
-pub use held::{positive_of, soft_of};
-pub use member::{end_at, lowest, without_lowest};
+pub use held::{holding, soft_of};
+pub use member::end_at;

@@ -1,25 +1,20 @@
 // What the finder goes by: hints, of which nothing is promised.
 ghost use Rattle.std.specs.Prelude.{◌≡◌, ◌+◌, ◌≤◌, length};
 
-use chains::Hints;
+use chains::{Hints, end_at};
 use chart::Chart;
 use residual::Left;
 use rows::Slots;
-use std::num::wrapping_add_u32;
 
-// What an ordering holds counts at both its ends.
+// What an ordering holds counts at both its ends; sums that would not fit go round.
 pub fn with_orderings(chart: &Chart, left: &Left) -> [u32; 32] {
     let mut held = left.options;
-    let mut u: usize = 0;
-    while u < chart.ordering_count {
-        let a = (chart.firsts[u] % 32) as usize;
-        let b = (chart.seconds[u] % 32) as usize;
-        let w = left.orderings[u];
-        let x = held[a];
-        held[a] = wrapping_add_u32(x, w);
-        let y = held[b];
-        held[b] = wrapping_add_u32(y, w);
-        u += 1;
+    for u in 0..chart.ordering_count {
+        let weight = left.orderings[u];
+        let a = end_at(&chart.firsts, u);
+        held[a] = held[a].wrapping_add(weight);
+        let b = end_at(&chart.seconds, u);
+        held[b] = held[b].wrapping_add(weight);
     }
     held
 }
@@ -34,41 +29,35 @@ pub fn hints_of(
     ensures { result.charged ≡ charged }
 {
     let held = with_orderings(chart, left);
-    let soft = chains::soft_of(chart, &left.orderings, open_orderings);
-    let positive = chains::positive_of(&held, open_options, chart.option_count);
     Hints {
-        charged: charged,
-        positive: positive,
-        held: held,
-        soft: soft,
+        charged,
+        positive: chains::holding(&held, open_options, chart.option_count),
+        held,
+        soft: chains::soft_of(chart, &left.orderings, open_orderings),
     }
 }
 
 // They are worked out again after a charge of e; nothing moves if nothing was charged.
 pub fn hints_after(
     chart: &Chart,
-    k: &mut Hints,
+    hints: &mut Hints,
     e: u32,
     open_options: u32,
     open_orderings: u64,
     left: &Left,
 )
-    requires { k.old.charged + e ≤ 10551136 }
-    ensures { k.new.charged ≡ k.old.charged + e }
+    requires { hints.old.charged + e ≤ 10551136 }
+    ensures { hints.new.charged ≡ hints.old.charged + e }
 {
     if e > 0 {
-        *k = hints_of(chart, open_options, open_orderings, left, k.charged + e);
+        let charged = hints.charged + e;
+        *hints = hints_of(chart, open_options, open_orderings, left, charged);
     }
 }
 
 // An item that gave nothing more is left for the next one.
 pub fn next_item(x: usize, e: u32) -> usize {
-    if e == 0 {
-        if x < 96 {
-            return x + 1;
-        }
-    }
-    x
+    if e == 0 && x < 96 { x + 1 } else { x }
 }
 
 // Whether item x is open and still holds something.

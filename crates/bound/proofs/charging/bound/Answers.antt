@@ -5,7 +5,7 @@ use Rattle.bound.specs.laws.Bound.{charged_nothing, bounded}
 use Rattle.bound.proofs.charging.bound.Goals as goal
 
 pub returns-then-enough-gt0 : goal.returns-then-enough-gt0
-returns-then-enough-gt0 c = bounded _ c.start-left.ensures.options c.start-left.ensures.orderings c.charge_rounds-e.ensures
+returns-then-enough-gt0 c = bounded _ c.start-left.ensures.options c.start-left.ensures.orderings c.charge_rounds-charged.ensures
 
 pub returns-else-enough-gt0 : goal.returns-else-enough-gt0
 returns-else-enough-gt0 c = bounded _ c.start-left.ensures.options c.start-left.ensures.orderings (charged_nothing (omega arith) (starts_left c.args.chart.now.ends.few_options c.args.chart.now.ends.few_orderings c.start-left.ensures.options c.start-left.ensures.orderings))

@@ -3,4 +3,4 @@ use Rattle.picks.specs.Picked.{OneOf}
 use Rattle.picks.proofs.greatest.greatest.Given as goal
 
 abbrev pub invariant-loop-i : goal.invariant-loop-i
-invariant-loop-i l = OneOf l.set l.n l.i-counter l.best
+invariant-loop-i g l = OneOf l.set l.n l.i l.best

@@ -1,9 +1,0 @@
--- Safe and ending: the row loses a member at each turn.
-use Rattle.std.proofs.Common.{◌≤◌}
-use Rattle.picks.proofs.score.beside.Given as goal
-
-abbrev pub invariant-loop-left : goal.invariant-loop-left
-invariant-loop-left l = l.left ≤ l.row
-
-abbrev pub decreases-loop-left : goal.decreases-loop-left
-decreases-loop-left l = l.left

@@ -30,7 +30,7 @@ pub fn put_line(t: [u32; 32], letter: u8, i: usize, j: usize, n: usize) -> [u32;
     said
 }
 
-// What all lines say, by a table of slots; options that nobody subscribed are passed over.
+// What all lines say, by a table of slots; options that nobody subscribed are passed over. The lines are arrays side by side, as the record has them.
 pub fn catalogue_rows<'a>(
     letters: &'a [u8],
     befores: &'a [u8],

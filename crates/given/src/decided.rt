@@ -19,7 +19,7 @@ pub fn decided(kept: bool, dropped: bool) -> Decision
     }
 }
 
-// The decisions about the first n of N items.
+// The decisions about the first n of N items; the rest are open.
 pub fn all_decided<S: Slots, const N: usize>(kept: S, dropped: S, n: usize) -> [Decision; N]
     requires { (n ≤ N) × (n ≤ S.width) }
     ensures { result ≡ filled N n (λ i. choice_of (decision_of (has (S.bits kept) i) (has (S.bits dropped) i))) undecided }

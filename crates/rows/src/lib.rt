@@ -45,6 +45,7 @@ pub trait Slots: Copy {
         ensures { bits result ≡ 0 };
 }
 
+// Each width has its own shift, so the two blocks are alike.
 impl Slots for u32 {
     ghost bits = { λ x. x };
 

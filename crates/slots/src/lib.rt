@@ -4,7 +4,7 @@
 ghost use Rattle.std.specs.Prelude.{◌≡◌, ◌≤◌, length};
 ghost use Rattle.slots.specs.Slots.{NumbersDiffer, TableOf, SlotsBy};
 
-// The slot of every number; n for those that nobody subscribed, as `SlotOf` says.
+// The slot of every number; n, and no Option, for those that nobody subscribed: the definition `SlotOf` says so.
 pub fn slot_table(numbers: &[u8], n: usize) -> [u8; 256]
     requires { NumbersDiffer n numbers.now × (n ≤ 32) }
     ensures { TableOf n numbers.now result }

@@ -1,6 +1,7 @@
 -- A decision list entry by entry: what it gives to the rules, and when nothing in it is open.
 use Rattle.std.specs.Prelude.{◌≡◌, refl, Bool, true, false, ◌||◌, List, [], ◌∷◌, ◌++◌, ℕ, zero, suc, ◌+◌, ◌<◌, length, take, drop, T}
-use Rattle.std.proofs.Common.{sym, subst, ap, ◌∙◌, arith}
+use Rattle.std.proofs.Common.{sym, subst, ap, ◌∙◌, arith, length-append}
+use Rattle.std.proofs.Math.Seq.{take-append_seam, drop-append_seam}
 use Rattle.rules.specs.Slots.{some_below, list_of}
 use Rattle.rules.specs.Lines.{Lines}
 use Rattle.rules.specs.Decisions.{is_open, is_kept, is_dropped, DecidedBySlot, decided_by_slot}
@@ -11,19 +12,11 @@ use Rattle.rules.specs.Decisions as R
 use Rattle.sheet.specs.declared.decision.Decisions.{Decisions}
 use Rattle.given.specs.declared.sets.Given.{Given}
 
-take_all : {A : Type 0} (l r : List A) → take (length l) (l ++ r) ≡ l
-take_all [] r = refl
-take_all (x ∷ l) r = ap (λ z. x ∷ z) (take_all l r)
-
-drop_all : {A : Type 0} (l r : List A) → drop (length l) (l ++ r) ≡ r
-drop_all [] r = refl
-drop_all (x ∷ l) r = drop_all l r
-
 pub take_list_of : {A : Type 0} (n : ℕ) (f : ℕ → A) (r : List A) → take n (list_of n f ++ r) ≡ list_of n f
-take_list_of n f r = ap (λ k. take k (list_of n f ++ r)) (sym (length_list_of n f)) ∙ take_all (list_of n f) r
+take_list_of n f r = ap (λ k. take k (list_of n f ++ r)) (sym (length_list_of n f)) ∙ take-append_seam (list_of n f) r
 
 pub drop_list_of : {A : Type 0} (n : ℕ) (f : ℕ → A) (r : List A) → drop n (list_of n f ++ r) ≡ r
-drop_list_of n f r = ap (λ k. drop k (list_of n f ++ r)) (sym (length_list_of n f)) ∙ drop_all (list_of n f) r
+drop_list_of n f r = ap (λ k. drop k (list_of n f ++ r)) (sym (length_list_of n f)) ∙ drop-append_seam (list_of n f) r
 
 module _ (s : Lines) (d : Decisions) (n m : ℕ) (options : length s.options ≡ n) (orderings : length s.orderings ≡ m) where
   abbrev b : DecidedBySlot
@@ -46,13 +39,9 @@ module _ (s : Lines) (d : Decisions) (n m : ℕ) (options : length s.options ≡
     dropped_orderings = holds_same g.dropped_orderings (λ u l. ap is_dropped (sym (ordering_told u l)));
   }
 
-length_append : {A : Type 0} (l r : List A) → length (l ++ r) ≡ length l + length r
-length_append [] r = omega arith
-length_append (x ∷ l) r = let h = length_append l r in omega arith
-
 pub length_decision_list : (n m : ℕ) (d : Decisions) → length (decision_list n m d) ≡ n + m
 unfolding decision_list
-length_decision_list n m d = let a = length_append (list_of n (decided_as d).option) (list_of m (decided_as d).ordering) in let x = length_list_of n (decided_as d).option in let y = length_list_of m (decided_as d).ordering in omega arith
+length_decision_list n m d = let a = length-append (list_of n (decided_as d).option) (list_of m (decided_as d).ordering) in let x = length_list_of n (decided_as d).option in let y = length_list_of m (decided_as d).ordering in omega arith
 
 -- ---- nothing open
 open_append : (l r : List R.Decision) → R.open_items (l ++ r) ≡ R.open_items l + R.open_items r

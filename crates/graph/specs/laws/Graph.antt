@@ -1,6 +1,7 @@
 -- One ordering, one row, one middle more: how the loops fill a table.
 use Rattle.std.specs.Prelude.{◌≡◌, refl, Bool, true, false, ◌&&◌, ◌||◌, List, ℕ, suc, ◌+◌, ◌≤◌, ◌<◌, length, get_or, set, eqb, ltb}
 use Rattle.std.proofs.Common.{sym, subst, ◌∙◌, arith, add-one, eq-eqb, ne_eqb, lt-ltb, le-ltb, length-set, get_or-set_same, get_or-set_other}
+use Rattle.std.proofs.Math.Bool.{or-false}
 use Rattle.std.proofs.Math.Decide.{ℕ_discrete}
 use Rattle.rules.specs.Slots.{some_below, slots}
 use Rattle.rules.specs.Joined.{through}
@@ -13,11 +14,7 @@ use Rattle.graph.specs.Graph.{kept_putting_first, WithOrderings, JoinedThrough, 
 
 pub with_orderings_none : (t : List ℕ) (kept_orderings : ℕ) (firsts seconds : List ℕ) → length t ≡ 32 → WithOrderings t kept_orderings firsts seconds 0 t
 unfolding some_below
-with_orderings_none t kept_orderings firsts seconds h = record { size = h; at = λ p q _. or_no (cell t p q) }
-  where
-    or_no : (a : Bool) → a ≡ (a || false)
-    or_no true = refl
-    or_no false = refl
+with_orderings_none t kept_orderings firsts seconds h = record { size = h; at = λ p q _. sym (or-false (cell t p q)) }
 
 pub with_orderings_step : (t : List ℕ) (kept_orderings : ℕ) (firsts seconds : List ℕ) {u x : ℕ} {r : List ℕ} {y : Bool} → WithOrderings t kept_orderings firsts seconds u r → y ≡ has kept_orderings u
     → get_or firsts u 0 < 32 → x ≡ with_if (get_or r (get_or firsts u 0) 0) (get_or seconds u 0) y → WithOrderings t kept_orderings firsts seconds (u + 1) (set r (get_or firsts u 0) x)
@@ -45,11 +42,7 @@ with_orderings_step t kept_orderings firsts seconds {u} {x} {r} {y} w e h f = re
     go p q l (no k) = rw (get_or-set_other r a p x 0 k, w.at p q l, ne_eqb a p (λ z. k (sym z))) (other (cell t p q) (some_below u (kept_putting_first kept_orderings firsts seconds p q)) (has kept_orderings u) (eqb b q))
 
 pub joined_through_none : (t : List ℕ) (c : ℕ) → length t ≡ 32 → JoinedThrough t c 0 t
-joined_through_none t c h = record { size = h; at = λ p q _. rw (le-ltb p 0 (omega arith)) (or_no (cell t p q)) }
-  where
-    or_no : (a : Bool) → a ≡ (a || false)
-    or_no true = refl
-    or_no false = refl
+joined_through_none t c h = record { size = h; at = λ p q _. rw (le-ltb p 0 (omega arith)) (sym (or-false (cell t p q))) }
 
 pub joined_through_step : (t : List ℕ) (c : ℕ) {i x : ℕ} {r : List ℕ} {y : Bool} → JoinedThrough t c i r → i < 32 → y ≡ cell t i c → x ≡ joined_if (get_or t i 0) (get_or t c 0) y → JoinedThrough t c (i + 1) (set r i x)
 joined_through_step t c {i} {x} {r} {y} w h e f = record { size = length-set r i x ∙ w.size; at = λ p q l. rw (add-one i) (go p q l (ℕ_discrete p i)) }

@@ -1,6 +1,7 @@
 -- What rows hold after each operation: callers go by these and never open a row.
 use Rattle.std.specs.Prelude.{ℕ, zero, suc, ◌+◌, ◌/◌, ◌%◌, ◌^◌, ◌<◌, max, min, ◌-◌, Bool, true, false, not, ◌&&◌, ◌||◌, ◌≡◌, refl, eqb, ◌⊎◌}
 use Rattle.std.proofs.Common.{sym, ap, ◌∙◌, arith, mod-lt, pow-suc, add_comm, inl, inr, pow-add, pow_pos, eq-eqb, ne_eqb, eqb-true}
+use Rattle.std.proofs.Math.Bool.{or-false}
 use Rattle.std.proofs.Math.Nat.{zero-div, div-eq_of_lt, mul-mod_left, div_self}
 use Rattle.std.specs.Int.Bits.{bit_or, bit_and, bit_xor, differ, or_step, and_step, xor_step}
 use Rattle.std.proofs.lemmas.Nat.{or_shr, and_shr, xor_shr, shl-shr}
@@ -71,19 +72,15 @@ pub has_none : (j : ℕ) → has 0 j ≡ false
 unfolding has
 has_none j = rw (zero-div (2 ^ j)) refl
 
-or_no : (a : Bool) → a ≡ (a || false)
-or_no true = refl
-or_no false = refl
-
 pub has_with_if : (row i : ℕ) (y : Bool) (j : ℕ) → has (with_if row i y) j ≡ (has row j || (y && eqb i j))
 unfolding with_if
 has_with_if row i true j = has_with row i j (three i j)
-has_with_if row i false j = or_no (has row j)
+has_with_if row i false j = sym (or-false (has row j))
 
 pub has_joined_if : (a b : ℕ) (y : Bool) (j : ℕ) → has (joined_if a b y) j ≡ (has a j || (y && has b j))
 unfolding joined_if
 has_joined_if a b true j = has_joined a b j
-has_joined_if a b false j = or_no (has a j)
+has_joined_if a b false j = sym (or-false (has a j))
 
 and_bit : (a b : ℕ) → bit_and a b % 2 ≡ min (a % 2) (b % 2)
 and_bit a b = rw (and_step a b) (let h = min_two (a % 2) (b % 2) (mod-lt a (omega arith)) (mod-lt b (omega arith)) in omega arith)

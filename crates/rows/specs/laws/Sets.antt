@@ -1,6 +1,7 @@
 -- How a loop fills a row, slot by slot, and what the row then holds.
 use Rattle.std.specs.Prelude.{◌≡◌, refl, Bool, true, false, ◌&&◌, ◌||◌, ◌≢◌, ℕ, suc, ◌+◌, ◌<◌, ◌≤◌, eqb, ltb}
 use Rattle.std.proofs.Common.{sym, subst, ◌∙◌, arith, add-one, eq-eqb, ne_eqb, lt-ltb, le-ltb, ltb-true, ltb-false}
+use Rattle.std.proofs.Math.Bool.{and-true, and-false, or-false}
 use Rattle.std.proofs.Math.Decide.{ℕ_discrete}
 use Rattle.rows.specs.Bits.{has, with_if}
 use Rattle.rows.specs.Sets.{Holds}
@@ -24,35 +25,17 @@ pub holds_step : (p : ℕ → Bool) {r i s : ℕ} {y : Bool} → Holds r i p →
 holds_step p {r} {i} {s} {y} w e f = record { at = λ j. rw (f, has_with_if r i y j, w.at j, e, add-one i) (go j (ℕ_discrete j i)) }
   where
     old : (a : Bool) → a ≡ (a || (p i && false))
-    old true = refl
-    old false = no_and (p i)
-      where
-        no_and : (b : Bool) → false ≡ (b && false)
-        no_and true = refl
-        no_and false = refl
-
-    new : (b : Bool) → (b && true) ≡ b
-    new true = refl
-    new false = refl
+    old a = rw (and-false (p i), or-false a)
 
     go : (j : ℕ) → Dec (j ≡ i) → ((ltb j i && p j) || (p i && eqb i j)) ≡ (ltb j (suc i) && p j)
-    go j (yes k) = rw (k, le-ltb i i (omega arith), eq-eqb i i refl, lt-ltb i (suc i) (omega arith)) (new (p i))
+    go j (yes k) = rw (k, le-ltb i i (omega arith), eq-eqb i i refl, lt-ltb i (suc i) (omega arith)) (and-true (p i))
     go j (no k) = rw (ne_eqb i j (λ q. k (sym q)), ltb_suc_ne j i k) (sym (old (ltb j i && p j)))
 
 pub has_put_same : (r i : ℕ) (y : Bool) → has r i ≡ false → has (with_if r i y) i ≡ y
-has_put_same r i y e = rw (has_with_if r i y i, e, eq-eqb i i refl) (go y)
-  where
-    go : (b : Bool) → (b && true) ≡ b
-    go true = refl
-    go false = refl
+has_put_same r i y e = rw (has_with_if r i y i, e, eq-eqb i i refl) (and-true y)
 
 pub has_put_other : (r i : ℕ) (y : Bool) (k : ℕ) → k ≢ i → has (with_if r i y) k ≡ has r k
-has_put_other r i y k d = rw (has_with_if r i y k, ne_eqb i k (λ q. d (sym q))) (go y (has r k))
-  where
-    go : (a b : Bool) → (b || (a && false)) ≡ b
-    go a true = refl
-    go true false = refl
-    go false false = refl
+has_put_other r i y k d = rw (has_with_if r i y k, ne_eqb i k (λ q. d (sym q))) (rw (and-false y, or-false (has r k)))
 
 -- what a set made by a test holds
 pub holds_where : {r n : ℕ} (p : ℕ → Bool) → ((k : ℕ) → k < n → has r k ≡ p k) → ((k : ℕ) → n ≤ k → has r k ≡ false) → Holds r n p

@@ -62,7 +62,7 @@ pub fn judge_option(h: Numbers, subscribed: &[u8]) -> Judged
     }
 }
 
-// A U line, with all subscribed options, after the pairs of the U lines before it.
+// A U line, with all subscribed options, after the pairs of the U lines before it: in two lists, as a record has them.
 pub fn judge_ordering(h: Numbers, subscribed: &[u8], firsts: &[u8], seconds: &[u8]) -> Judged
     ensures { result ≡ judge_ordering h subscribed.now firsts.now seconds.now }
 {

@@ -1,13 +1,10 @@
 -- What a line's section and a passed judgement say, and one line of `read_lines`.
 use Prim.Native.Nat.{ℕ, suc, ◌+◌, ◌-◌, ◌≤◌, ◌<◌}
-use mathlib.Core.Path.{◌≡◌, refl, ◌∙◌, sym}
-use mathlib.Core.Bool.{Bool, true, false, cond}
+use mathlib.Core.Path.{◌≡◌, ◌∙◌, sym}
 use mathlib.Core.List.{List}
 use native.Mathlib.Omega.{arith}
-use lib.Dec.{ltb}
 use lib.ListN.{length, take, drop, get_or, length-drop}
 use lib.Seq.{take_all}
-use borrow.Author.Tests.{ltb-true, ltb-false}
 use Rattle.shape.specs.Number.{numbers_of}
 use Rattle.shape.specs.Line.{line_length}
 use Rattle.lines.specs.Lines.{read_lines, judged_line, after_judged}

@@ -11,6 +11,8 @@ use pieces::{byte_at, line_length, numbers_of};
 use shape::{Numbers, Section, section_of};
 use sheet::{Answer, Judged, Sheet};
 
+// The numbers of a line that breaks no rule fit their entries: no TryFrom, which would bring an error that cannot come.
+
 // Puts a C or X line, which is entry i and begins with `letter`, into the record.
 fn put_catalogue_line(s: &mut Sheet, i: usize, letter: u8, h: Numbers)
     requires i_bound { i < 512 }

@@ -5,7 +5,7 @@ ghost use Rattle.lines.specs.Result.{refused, refused_at, answered};
 use shape::Place;
 use sheet::{Answer, Refusal, Sheet};
 
-// The answer, and the record of an accepted sheet.
+// The answer, and the record of an accepted sheet. No Result: a refusal has a record too, which is all zero.
 #[derive(Clone, Copy)]
 pub struct Reading {
     pub answer: Answer,

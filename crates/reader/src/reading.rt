@@ -42,6 +42,7 @@ fn read_trailed(s: &[u8], last: LastLine, numbers: Numbers) -> Reading
     requires at_in_bounds { (last.start ≤ length s.now) × (last.lines ≡ suc (line_ends (take last.start s.now))) }
     ensures { result ≡ read_trailed s.now last.start last.lines numbers.first numbers.second numbers.third }
 {
+    // By `as`: usize has no From<u32>.
     let f = numbers.first as usize;
     let u = numbers.second as usize;
     let t = numbers.third as usize;

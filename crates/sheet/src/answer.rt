@@ -31,6 +31,7 @@ pub fn number_of(why: Refusal) -> usize
     why as usize
 }
 
+// Outside callers match its two cases, so it is no Result.
 #[derive(Clone, Copy)]
 pub enum Answer {
     Accepted,

@@ -4,6 +4,7 @@ ghost use Rattle.sheet.specs.Sheet.{sized, empty_sheet};
 
 // The lines of a sheet by sections. Of a catalogue line: its letter and its two options; of an F line: the option and its weight;
 // of a U line: the option that comes first, the other, and the weight. Entries past the counts are zero.
+// Arrays with their counts beside them: there is no heap, and outside callers name the fields.
 #[derive(Clone, Copy)]
 pub struct Sheet {
     pub catalogue_lines: usize,

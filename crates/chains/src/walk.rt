@@ -15,7 +15,12 @@ fn leads(chart: &Chart, u: usize, from: u32, to: u32) -> bool
 }
 
 // The item of a level that holds most, if one holds anything: the first of them, options before orderings.
-fn best_of(chart: &Chart, left_orderings: &[u32; 64], held: &[u32; 32], level: Level) -> Option<usize>
+fn best_of(
+    chart: &Chart,
+    left_orderings: &[u32; 64],
+    held: &[u32; 32],
+    level: Level,
+) -> Option<usize>
     ensures { IfSome result (λ i. i < 32 + chart.now.ordering_count) }
 {
     let mut best: Option<usize> = None;

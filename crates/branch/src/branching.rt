@@ -10,33 +10,31 @@ use chart::Chart;
 use given::Given;
 use keeping::{drop_item, keep_item};
 use settle::settle;
-use so_far::{SoFar, take, wanted};
+use so_far::SoFar;
 
 // The sheet is settled; then the first open item in slot order, options before orderings, is kept, and after that dropped. Nothing is worth
 // more than the ceiling, so a find that reaches it is the last.
-pub fn branch(chart: &Chart, g: Given, a: SoFar, tolerance: u32, ceiling: u32) -> SoFar
-    requires { Apart chart.now g × (a.goal ≤ largest_sum + 1) × (tolerance ≤ largest_value) }
-    ensures { Branched chart.now tolerance ceiling g a result }
+pub fn branch(chart: &Chart, g: Given, found: &mut SoFar, tolerance: u32, ceiling: u32)
+    requires { Apart chart.now g × (found.old.goal ≤ largest_sum + 1) × (tolerance ≤ largest_value) }
+    ensures { Branched chart.now tolerance ceiling g found.old found.new }
 {
-    let want = wanted(a, tolerance);
+    let want = found.wanted(tolerance);
     if ceiling < want {
-        return a;
+        return;
     }
-    let x = settle(chart, g, want);
-    if x.over {
-        return a;
-    }
-    let i = first_item(
+    let Some(x) = settle(chart, g, want) else {
+        return;
+    };
+    let first = first_item(
         x.open_options,
         x.open_orderings,
         chart.option_count,
         chart.ordering_count,
     );
-    if 96 <= i {
-        return take(a, x.given, x.lower);
-    }
-    let kept = keep_item(x.given, i);
-    let b = branch(chart, kept, a, tolerance, ceiling);
-    let dropped = drop_item(x.given, i);
-    branch(chart, dropped, b, tolerance, ceiling)
+    let Some(i) = first else {
+        found.take(x.given, x.lower);
+        return;
+    };
+    branch(chart, keep_item(x.given, i), found, tolerance, ceiling);
+    branch(chart, drop_item(x.given, i), found, tolerance, ceiling);
 }

@@ -57,15 +57,15 @@ unfoldable pub accepted : Found → ℕ → ℕ → Searched
 accepted f n m = record {
   answer = Accepted;
   decisions = record {
-    options = filled 32 n (λ i. choice_of (chosen (has f.kept i))) undecided;
-    orderings = filled 64 m (λ u. choice_of (chosen (has f.kept_orderings u))) undecided;
+    options = filled 32 n (λ i. choice_of (chosen (has f.kept.options i))) undecided;
+    orderings = filled 64 m (λ u. choice_of (chosen (has f.kept.orderings u))) undecided;
   };
   value = f.value;
   ceiling = f.ceiling;
 }
 
 abbrev pub answer_in : (n m : ℕ) → Found → R.Answer
-answer_in n m r = record { relaxation = chosen_list n m r.kept r.kept_orderings; value = r.value; ceiling = r.ceiling }
+answer_in n m r = record { relaxation = chosen_list n m r.kept.options r.kept.orderings; value = r.value; ceiling = r.ceiling }
 
 -- Whatever sheet the chart shows.
 abbrev pub FoundBy : (chart : Chart) (tolerance : ℕ) → Found → Type 0

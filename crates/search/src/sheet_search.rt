@@ -5,7 +5,6 @@ ghost use Rattle.sheet.specs.Limits.{largest_value};
 ghost use Rattle.search.specs.Search.{refused, accepted, Answers, SearchedAs};
 
 use crate::found::{Found, found_in};
-use shape::Place;
 use sheet::{Answer, Decisions, Refusal, Sheet};
 
 // The answer: kept or dropped for every item within the counts, open past them; the relaxation's value and a ceiling.
@@ -17,20 +16,17 @@ pub struct Searched {
     pub ceiling: u32,
 }
 
-// A refusal: its number, no place, and an all-zero result.
-pub fn refused(why: Refusal) -> Searched
-    ensures { result ≡ refused why }
-{
-    let decisions = Decisions::open();
-    let answer = Answer::Refused {
-        place: Place { line: 0, column: 0 },
-        why: why,
-    };
-    Searched {
-        answer: answer,
-        decisions: decisions,
-        value: 0,
-        ceiling: 0,
+impl Searched {
+    // A refusal: its number, no place, and an all-zero result.
+    pub fn refused(why: Refusal) -> Searched
+        ensures { result ≡ refused why }
+    {
+        Searched {
+            answer: Answer::refused(why),
+            decisions: Decisions::open(),
+            value: 0,
+            ceiling: 0,
+        }
     }
 }
 
@@ -39,17 +35,15 @@ pub fn accepted(f: Found, n: usize, m: usize) -> Searched
     requires { (n ≤ 32) × (m ≤ 64) }
     ensures { result ≡ accepted f n m }
 {
-    let rest = half::open_options(f.kept, 0, n);
-    let rest_orderings = half::open_orderings(f.kept_orderings, 0, m);
-    let options = given::options_decided(f.kept, rest, n);
-    let orderings = given::orderings_decided(f.kept_orderings, rest_orderings, m);
-    let decisions = Decisions {
-        options: options,
-        orderings: orderings,
-    };
+    let kept = f.kept;
+    let rest = half::open_options(kept.options, 0, n);
+    let rest_orderings = half::open_orderings(kept.orderings, 0, m);
     Searched {
         answer: Answer::Accepted,
-        decisions: decisions,
+        decisions: Decisions {
+            options: given::options_decided(kept.options, rest, n),
+            orderings: given::orderings_decided(kept.orderings, rest_orderings, m),
+        },
         value: f.value,
         ceiling: f.ceiling,
     }
@@ -71,10 +65,10 @@ pub fn search(s: Sheet, tolerance: u32) -> Searched
     ensures { SearchedAs s tolerance result }
 {
     if !record::is_recorded(s) {
-        return refused(Refusal::NotRecorded);
+        return Searched::refused(Refusal::NotRecorded);
     }
     if Sheet::LARGEST_VALUE < tolerance {
-        return refused(Refusal::ToleranceTooLarge);
+        return Searched::refused(Refusal::ToleranceTooLarge);
     }
     answer_of(s, tolerance)
 }

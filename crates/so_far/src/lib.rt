@@ -4,4 +4,4 @@
 
 mod so_far;
 
-pub use so_far::{SoFar, nothing_found, take, wanted, worth};
+pub use so_far::{Kept, SoFar};

@@ -1,5 +1,5 @@
 -- Each way out of the recursive branch keeps its promise.
-use Rattle.std.specs.Prelude.{◌≡◌, refl, Bool, true, false, cond, List, ℕ, suc, ◌+◌, ◌≤◌, ◌<◌, set, T, ltb}
+use Rattle.std.specs.Prelude.{◌≡◌, refl, Bool, true, false, cond, List, ℕ, suc, ◌+◌, ◌≤◌, ◌<◌, set, T, ltb, is_some, Some, None}
 use Rattle.chart.specs.declared.chart.Chart.{Chart}
 use Rattle.std.proofs.Common.{sym, ap, ◌∙◌, arith, ltb-true, ltb-false}
 use Rattle.std.proofs.Math.Path.{subst}
@@ -67,53 +67,52 @@ module _ (chart : Chart) (tolerance ceiling : ℕ) (g : Given) (a : SoFar) (smal
     found_left s sh now f = finds_reduced (value_of s) (ConsistentRelaxation s) tolerance d (decisions_of chart x.given) (shown n m a) now
         (reduces_weaker (value_of s) (ConsistentRelaxation s) a.goal tolerance want d (decisions_of chart x.given) (let k = wanted_below a tolerance in omega arith) (left.reduces s sh)) f
 
-    module _ (i : ℕ) (first : FirstItem x.open_options x.open_orderings n m i) where
-      -- ---- nothing is open: a leaf
-      pub step_leaf : 96 ≤ i → (r : SoFar) → r ≡ taken a x.given x.lower → Promise g a r
-      unfolding taken
-      step_leaf k r q = subst (Promise g a) (sym q) (go (ltb x.lower a.goal) refl)
-        where
-          z : open_items (decisions_of chart x.given) ≡ 0
-          z = none_open x left i first.picked k
+    -- ---- nothing is open: a leaf
+    pub step_leaf : FirstItem x.open_options x.open_orderings n m None → (r : SoFar) → r ≡ taken a x.given x.lower → Promise g a r
+    unfolding taken
+    step_leaf first r q = subst (Promise g a) (sym q) (go (ltb x.lower a.goal) refl)
+      where
+        z : open_items (decisions_of chart x.given) ≡ 0
+        z = none_open x left first.picked
 
-          go : (b : Bool) → ltb x.lower a.goal ≡ b → Promise g a (cond b a (record { goal = x.lower + 1; found = true; kept = x.given.kept; kept_orderings = x.given.kept_orderings }))
-          go true f = record {
-            goal = small;
-            unfound = λ _. refl;
-            finds = λ s sh top. let w = ltb-true x.lower a.goal f in let v = left.worth s sh in
-                found_left s sh (shown n m a) (finds_worse (value_of s) (ConsistentRelaxation s) tolerance (decisions_of chart x.given) (shown n m a) z (omega arith));
-          }
-          go false f = record {
-            goal = (let w = left.small in omega arith);
-            unfound = λ w. absurd (subst T w tt);
-            finds = λ s sh top. let w = ltb-false x.lower a.goal f in let v = left.worth s sh in
-                found_left s sh _ (subst (λ y. Finds (value_of s) (ConsistentRelaxation s) tolerance (decisions_of chart x.given) (shown n m a) y) (found s sh)
-                (finds_leaf (value_of s) (ConsistentRelaxation s) tolerance (decisions_of chart x.given) (shown n m a) z (left.consistent s sh) (omega arith)));
-          }
-            where
-              found : (s : Lines) (sh : ShowsSheet s chart) → ◌≡◌ {A = R.SoFar} (record { goal = suc (value_of s (just_the_kept (decisions_of chart x.given))); find = some (just_the_kept (decisions_of chart x.given)) })
-                  (record { goal = x.lower + 1; find = some (chosen_list n m x.given.kept x.given.kept_orderings) })
-              found s sh = let v = left.worth s sh in let goal : suc (value_of s (just_the_kept (decisions_of chart x.given))) ≡ x.lower + 1 = omega arith in
-                  let kept = kept_shown chart x.given in λ j. record { goal = goal j; find = some (kept j) }
+        go : (b : Bool) → ltb x.lower a.goal ≡ b → Promise g a (cond b a (record { goal = x.lower + 1; find = Some (record { options = x.given.kept; orderings = x.given.kept_orderings }) }))
+        go true f = record {
+          goal = small;
+          unfound = λ _. refl;
+          finds = λ s sh top. let w = ltb-true x.lower a.goal f in let v = left.worth s sh in
+              found_left s sh (shown n m a) (finds_worse (value_of s) (ConsistentRelaxation s) tolerance (decisions_of chart x.given) (shown n m a) z (omega arith));
+        }
+        go false f = record {
+          goal = (let w = left.small in omega arith);
+          unfound = λ w. absurd (subst (λ o. T (is_some o)) w tt);
+          finds = λ s sh top. let w = ltb-false x.lower a.goal f in let v = left.worth s sh in
+              found_left s sh _ (subst (λ y. Finds (value_of s) (ConsistentRelaxation s) tolerance (decisions_of chart x.given) (shown n m a) y) (found s sh)
+              (finds_leaf (value_of s) (ConsistentRelaxation s) tolerance (decisions_of chart x.given) (shown n m a) z (left.consistent s sh) (omega arith)));
+        }
+          where
+            found : (s : Lines) (sh : ShowsSheet s chart) → ◌≡◌ {A = R.SoFar} (record { goal = suc (value_of s (just_the_kept (decisions_of chart x.given))); find = some (just_the_kept (decisions_of chart x.given)) })
+                (record { goal = x.lower + 1; find = some (chosen_list n m x.given.kept x.given.kept_orderings) })
+            found s sh = let v = left.worth s sh in let goal : suc (value_of s (just_the_kept (decisions_of chart x.given))) ≡ x.lower + 1 = omega arith in
+                let kept = kept_shown chart x.given in λ j. record { goal = goal j; find = some (kept j) }
 
-      -- ---- the first open item is kept (y), and after that dropped (z)
-      pub step_split : i < 96 → (y z : Given) → y ≡ with_item_kept x.given i → z ≡ with_item_dropped x.given i → (b r : SoFar) → Promise y a b → Promise z b r → Promise g a r
-      step_split l y z p q b r u w = record {
-        goal = w.goal;
-        unfound = λ k. w.unfound k ∙ u.unfound (sym (ap (λ c. c.found) (w.unfound k)) ∙ k);
-        finds = λ s sh top. found_left s sh (shown n m r) (finds_split (value_of s) (ConsistentRelaxation s) tolerance e' (shown n m a) (shown n m b) (shown n m r) (some_open x left i first.picked l)
-            (subst (λ k. Finds (value_of s) (ConsistentRelaxation s) tolerance k (shown n m a) (shown n m b)) (kept_is y p) (u.finds s sh top))
-            (subst (λ k. Finds (value_of s) (ConsistentRelaxation s) tolerance k (shown n m b) (shown n m r)) (dropped_is z q) (w.finds s sh top)));
-      }
-        where
-          e' : List Decision
-          e' = decisions_of chart x.given
+    -- ---- the first open item is kept (y), and after that dropped (z)
+    pub step_split : (i : ℕ) → FirstItem x.open_options x.open_orderings n m (Some i) → (y z : Given) → y ≡ with_item_kept x.given i → z ≡ with_item_dropped x.given i → (b r : SoFar) → Promise y a b → Promise z b r → Promise g a r
+    step_split i first y z p q b r u w = record {
+      goal = w.goal;
+      unfound = λ k. w.unfound k ∙ u.unfound (sym (ap (λ c. c.find) (w.unfound k)) ∙ k);
+      finds = λ s sh top. found_left s sh (shown n m r) (finds_split (value_of s) (ConsistentRelaxation s) tolerance e' (shown n m a) (shown n m b) (shown n m r) (some_open x left i first.picked)
+          (subst (λ k. Finds (value_of s) (ConsistentRelaxation s) tolerance k (shown n m a) (shown n m b)) (kept_is y p) (u.finds s sh top))
+          (subst (λ k. Finds (value_of s) (ConsistentRelaxation s) tolerance k (shown n m b) (shown n m r)) (dropped_is z q) (w.finds s sh top)));
+    }
+      where
+        e' : List Decision
+        e' = decisions_of chart x.given
 
-          next : (c : Decision) → set e' (place n i) c ≡ decide_next c e'
-          next c = sym (decide_next_sets c e' (place n i) (place_below chart x.given i (open_item x left i first.picked l)) (is_open_there x left i first.picked l) (first_in_the_list x left i first l))
+        next : (c : Decision) → set e' (place n i) c ≡ decide_next c e'
+        next c = sym (decide_next_sets c e' (place n i) (place_below chart x.given i (open_item x left i first.picked)) (is_open_there x left i first.picked) (first_in_the_list x left i first))
 
-          kept_is : (y : Given) → y ≡ with_item_kept x.given i → decisions_of chart y ≡ decide_next Kept e'
-          kept_is y p = ap (decisions_of chart) p ∙ sym (item_kept_shown chart x.given i (open_item x left i first.picked l)) ∙ next Kept
+        kept_is : (y : Given) → y ≡ with_item_kept x.given i → decisions_of chart y ≡ decide_next Kept e'
+        kept_is y p = ap (decisions_of chart) p ∙ sym (item_kept_shown chart x.given i (open_item x left i first.picked)) ∙ next Kept
 
-          dropped_is : (z : Given) → z ≡ with_item_dropped x.given i → decisions_of chart z ≡ decide_next Dropped e'
-          dropped_is z q = ap (decisions_of chart) q ∙ sym (item_dropped_shown chart x.given i (open_item x left i first.picked l)) ∙ next Dropped
+        dropped_is : (z : Given) → z ≡ with_item_dropped x.given i → decisions_of chart z ≡ decide_next Dropped e'
+        dropped_is z q = ap (decisions_of chart) q ∙ sym (item_dropped_shown chart x.given i (open_item x left i first.picked)) ∙ next Dropped

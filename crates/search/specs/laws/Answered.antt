@@ -49,8 +49,8 @@ unfolding accepted answered
 answered_is s f =
     let n = s.option_count in let m = s.ordering_count in
     rw (
-      filled_same 32 n (λ i. choice_of (chosen (has f.kept i))) (λ i. choice_of (chosen (get_or (chosen_list n m f.kept f.kept_orderings) i false))) undecided (λ i l. ap (λ x. choice_of (chosen x)) (sym (option_chosen n m f.kept f.kept_orderings i l))),
-      filled_same 64 m (λ u. choice_of (chosen (has f.kept_orderings u))) (λ u. choice_of (chosen (get_or (chosen_list n m f.kept f.kept_orderings) (n + u) false))) undecided (λ u l. ap (λ x. choice_of (chosen x)) (sym (ordering_chosen n m f.kept f.kept_orderings u l))),
+      filled_same 32 n (λ i. choice_of (chosen (has f.kept.options i))) (λ i. choice_of (chosen (get_or (chosen_list n m f.kept.options f.kept.orderings) i false))) undecided (λ i l. ap (λ x. choice_of (chosen x)) (sym (option_chosen n m f.kept.options f.kept.orderings i l))),
+      filled_same 64 m (λ u. choice_of (chosen (has f.kept.orderings u))) (λ u. choice_of (chosen (get_or (chosen_list n m f.kept.options f.kept.orderings) (n + u) false))) undecided (λ u l. ap (λ x. choice_of (chosen x)) (sym (ordering_chosen n m f.kept.options f.kept.orderings u l))),
     ) refl
 
 -- The chart's answer is the sheet's.

@@ -1,5 +1,5 @@
 -- What a whole search left is an answer to the tolerance, for whatever sheet the arrays show.
-use Rattle.std.specs.Prelude.{◌≡◌, Bool, true, false, List, ◌∷◌, ◌++◌, ℕ, zero, suc, ◌+◌, ◌-◌, min}
+use Rattle.std.specs.Prelude.{◌≡◌, Bool, false, List, ◌∷◌, ◌++◌, ℕ, zero, suc, ◌+◌, ◌-◌, min, Option, Some, None}
 use Rattle.chart.specs.declared.chart.Chart.{Chart}
 use Rattle.std.proofs.Math.Path.{refl}
 use Rattle.std.proofs.Common.{sym, subst, ap, ◌∙◌}
@@ -24,9 +24,10 @@ use Rattle.keeping.specs.Sets.{decisions_of, chosen_list, nothing_given}
 use Rattle.value.specs.Value.{BoundsAs}
 use Rattle.value.specs.laws.Whole.{fresh}
 use Rattle.value.specs.declared.bounds.Bounds.{Bounds}
-use Rattle.branch.specs.Shown.{found_if, shown}
+use Rattle.branch.specs.Shown.{choice_of, shown}
 use Rattle.branch.specs.Branch.{Branched}
-use Rattle.so_far.specs.State.{nothing_found}
+use Rattle.so_far.specs.State.{nothing_found, kept_of, kept_in}
+use Rattle.so_far.specs.declared.so_far.Kept.{Kept}
 use Rattle.so_far.specs.declared.so_far.SoFar.{SoFar}
 use Rattle.search.specs.Search.{FoundBy}
 
@@ -64,28 +65,31 @@ module _ (chart : Chart) (tolerance : ℕ) (bounds : Bounds) (bounded : BoundsAs
     left : List Bool
     left = answer (none_kept (items s)) (shown n m b).find
 
-    left_is : chosen_list n m b.kept b.kept_orderings ≡ left
+    left_is : chosen_list n m (kept_in b).options (kept_in b).orderings ≡ left
     unfolding left
-    left_is = go b.found refl
+    left_is = go b.find
       where
         count : n + m ≡ items s
         count = let x = sh.options in let y = sh.orderings in omega arith
 
-        go : (x : Bool) → b.found ≡ x → chosen_list n m b.kept b.kept_orderings ≡ answer (none_kept (items s)) (found_if x (chosen_list n m b.kept b.kept_orderings))
-        go true e = refl
-        go false e = ap (λ z. chosen_list n m z.kept z.kept_orderings) (done.unfound e ∙ ea) ∙ nothing_chosen n m ∙ ap none_kept count
+        go : (x : Option Kept) → chosen_list n m (kept_of x).options (kept_of x).orderings ≡ answer (none_kept (items s)) (choice_of n m x)
+        go (Some k) = refl
+        go None = nothing_chosen n m ∙ ap none_kept count
 
     answers : (b.goal - 1 ≡ value_of s left) × AnswerTo s tolerance (record { relaxation = left; value = value_of s left; ceiling = min bounds.ceiling (value_of s left + tolerance) })
     unfolding left
     answers = floor_pass_answers s tolerance bounds.ceiling bounds.floor (shown n m b) (bounded.floor s sh) (bounded.ceiling.above s sh) finds
 
-  pub found_answers : (value ceiling : ℕ) → value ≡ b.goal - 1 → ceiling ≡ min bounds.ceiling (value + tolerance)
-      → FoundBy chart tolerance (record { kept = b.kept; kept_orderings = b.kept_orderings; value = value; ceiling = ceiling })
-  found_answers value ceiling ev ec s sh = subst (AnswerTo s tolerance) same (answers s sh).1
+  pub found_answers : (kept : Kept) → kept ≡ kept_in b → (value ceiling : ℕ) → value ≡ b.goal - 1 → ceiling ≡ min bounds.ceiling (value + tolerance)
+      → FoundBy chart tolerance (record { kept = kept; value = value; ceiling = ceiling })
+  found_answers kept ek value ceiling ev ec s sh = subst (AnswerTo s tolerance) same (answers s sh).1
     where
       worth : value_of s (left s sh) ≡ value
       worth = sym (answers s sh).0 ∙ sym ev
 
+      keeps : left s sh ≡ chosen_list n m kept.options kept.orderings
+      keeps = sym (left_is s sh) ∙ ap (λ k. chosen_list n m k.options k.orderings) (sym ek)
+
       same : ◌≡◌ {A = R.Answer} (record { relaxation = left s sh; value = value_of s (left s sh); ceiling = min bounds.ceiling (value_of s (left s sh) + tolerance) })
-          (record { relaxation = chosen_list n m b.kept b.kept_orderings; value = value; ceiling = ceiling })
-      same = λ i. record { relaxation = sym (left_is s sh) i; value = worth i; ceiling = (ap (λ z. min bounds.ceiling (z + tolerance)) worth ∙ sym ec) i }
+          (record { relaxation = chosen_list n m kept.options kept.orderings; value = value; ceiling = ceiling })
+      same = λ i. record { relaxation = keeps i; value = worth i; ceiling = (ap (λ z. min bounds.ceiling (z + tolerance)) worth ∙ sym ec) i }

@@ -19,12 +19,5 @@ pub fn soft_of(chart: &Chart, left_orderings: &[u32; 64], open_orderings: u64) -
     ensures { Soft chart.now.firsts chart.now.seconds left_orderings.now open_orderings chart.now.ordering_count result }
 {
     let set = holding(left_orderings, open_orderings, chart.ordering_count);
-    graph::put_orderings(
-        [0; 32],
-        set,
-        &chart.firsts,
-        &chart.seconds,
-        chart.option_count,
-        chart.ordering_count,
-    )
+    chart.with_orderings([0; 32], set)
 }

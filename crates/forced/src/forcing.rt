@@ -23,14 +23,7 @@ pub fn force(chart: &Chart, g: Given) -> Forced
     let m = chart.ordering_count;
     let kept_orderings = g.kept_orderings;
     let kept = kept_options(chart, g.kept, kept_orderings);
-    let start = graph::put_orderings(
-        chart.rows,
-        kept_orderings,
-        &chart.firsts,
-        &chart.seconds,
-        n,
-        m,
-    );
+    let start = chart.with_orderings(chart.rows, kept_orderings);
     let known = graph::join_through_all(start, kept, n);
     let dropped = dropped_options(g.dropped, &known, n);
     let dropped_orderings = dropped_orderings(chart, g.dropped_orderings, dropped, &known);

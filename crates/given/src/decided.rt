@@ -30,17 +30,3 @@ pub fn all_decided<S: Slots, const N: usize>(kept: S, dropped: S, n: usize) -> [
     }
     list
 }
-
-pub fn options_decided(kept: u32, dropped: u32, n: usize) -> [Decision; 32]
-    requires { n ≤ 32 }
-    ensures { result ≡ filled 32 n (λ i. choice_of (decision_of (has kept i) (has dropped i))) undecided }
-{
-    all_decided(kept, dropped, n)
-}
-
-pub fn orderings_decided(kept: u64, dropped: u64, m: usize) -> [Decision; 64]
-    requires { m ≤ 64 }
-    ensures { result ≡ filled 64 m (λ u. choice_of (decision_of (has kept u) (has dropped u))) undecided }
-{
-    all_decided(kept, dropped, m)
-}

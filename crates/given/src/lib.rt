@@ -9,6 +9,6 @@ mod open;
 mod sets;
 
 pub use choice::{is_dropped, is_kept, is_open};
-pub use decided::{all_decided, options_decided, orderings_decided};
+pub use decided::all_decided;
 pub use open::{has_decision_past, has_open_item};
 pub use sets::{Given, given_sets};

@@ -4,5 +4,5 @@
 mod opened;
 mod weights;
 
-pub use opened::{Half, half_decided, open_items, open_options, open_orderings};
+pub use opened::{Half, half_decided, open_items};
 pub use weights::{weigh, weigh_both, weight_if};

@@ -32,20 +32,6 @@ pub fn open_items<S: Slots>(kept: S, dropped: S, n: usize) -> S
     )
 }
 
-pub fn open_options(kept: u32, dropped: u32, n: usize) -> u32
-    requires { n ≤ 32 }
-    ensures { Holds result n (λ i. not (has kept i || has dropped i)) }
-{
-    open_items(kept, dropped, n)
-}
-
-pub fn open_orderings(kept: u64, dropped: u64, m: usize) -> u64
-    requires { m ≤ 64 }
-    ensures { Holds result m (λ u. not (has kept u || has dropped u)) }
-{
-    open_items(kept, dropped, m)
-}
-
 // The half-decided sheet that forced decisions leave.
 pub fn half_decided(chart: &Chart, f: &Forced) -> Half
     ensures { HalfDecidedAs chart.now f.now result }

@@ -78,12 +78,11 @@ pub fn limits_of(chart: &Chart, g: Given) -> Limited
     let n = chart.option_count;
     let m = chart.ordering_count;
     let h = half::half_decided(chart, &f);
+    let options = given::all_decided(f.kept, f.dropped, n);
+    let orderings = given::all_decided(f.kept_orderings, f.dropped_orderings, m);
     Limited {
         contradiction: false,
-        decisions: Decisions {
-            options: given::options_decided(f.kept, f.dropped, n),
-            orderings: given::orderings_decided(f.kept_orderings, f.dropped_orderings, m),
-        },
+        decisions: Decisions { options, orderings },
         lower: h.lower,
         upper: h.upper,
         options: option_limits(chart, &h),

@@ -5,7 +5,6 @@
 mod chosen;
 mod ones;
 mod options;
-mod tests;
 
 ghost use Rattle.std.specs.Prelude.{◌≡◌, ℕ, ◌<◌};
 ghost use Rattle.rows.specs.Bits.{has, with, with_if};
@@ -13,7 +12,6 @@ ghost use Rattle.rows.specs.Bits.{has, with, with_if};
 pub use chosen::set_where;
 pub use ones::Ones;
 pub use options::{join, join_if, meet, turn};
-pub use tests::{both, differ, either, neither, opposite};
 
 // A set of slots, as the bits of a word.
 pub trait Slots: Copy {

@@ -36,14 +36,13 @@ pub fn accepted(f: Found, n: usize, m: usize) -> Searched
     ensures { result ≡ accepted f n m }
 {
     let kept = f.kept;
-    let rest = half::open_options(kept.options, 0, n);
-    let rest_orderings = half::open_orderings(kept.orderings, 0, m);
+    let rest = half::open_items(kept.options, 0, n);
+    let rest_orderings = half::open_items(kept.orderings, 0, m);
+    let options = given::all_decided(kept.options, rest, n);
+    let orderings = given::all_decided(kept.orderings, rest_orderings, m);
     Searched {
         answer: Answer::Accepted,
-        decisions: Decisions {
-            options: given::options_decided(kept.options, rest, n),
-            orderings: given::orderings_decided(kept.orderings, rest_orderings, m),
-        },
+        decisions: Decisions { options, orderings },
         value: f.value,
         ceiling: f.ceiling,
     }

@@ -13,16 +13,8 @@ pub fn sequence_of(chart: &Chart, numbers: &[u8; 32], g: Given) -> Option<[Numbe
     ensures { PlacedBy chart.now numbers.now g result }
 {
     let n = chart.option_count;
-    let m = chart.ordering_count;
     let between = between_kept(&chart.rows, g.kept, n);
-    let edges = graph::put_orderings(
-        between,
-        g.kept_orderings,
-        &chart.firsts,
-        &chart.seconds,
-        n,
-        m,
-    );
+    let edges = chart.with_orderings(between, g.kept_orderings);
     let paths = graph::join_through_all(edges, g.kept, n);
     if lacks_option(chart, g.kept, g.kept_orderings) || has_cycle(&paths, n) {
         return None;

@@ -7,4 +7,4 @@ pub returns-then-f : goal.returns-then-f
 returns-then-f c = λ v b shows weighs gives. c.nothing_but.ensures ∙ limited_contradiction c.args.chart.now c.args.g _ c.force-f.ensures c.if-f.true v b shows weighs gives
 
 pub returns : goal.returns
-returns c = limited_otherwise _ c.args.g _ c.force-f.ensures _ c.half_decided-h.ensures c.if-f.false c.options_decided.ensures c.orderings_decided.ensures c.option_limits.ensures c.ordering_limits.ensures
+returns c = limited_otherwise _ c.args.g _ c.force-f.ensures _ c.half_decided-h.ensures c.if-f.false c.all_decided-options.ensures c.all_decided-orderings.ensures c.option_limits.ensures c.ordering_limits.ensures

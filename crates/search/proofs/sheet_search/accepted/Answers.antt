@@ -5,4 +5,4 @@ use Rattle.search.proofs.sheet_search.accepted.Goals as goal
 
 pub returns : goal.returns
 unfolding accepted
-returns c = rw (c.options_decided.ensures, c.orderings_decided.ensures, chosen_filled 32 _ _ _ c.open_options-rest.ensures, chosen_filled 64 _ _ _ c.open_orderings-rest_orderings.ensures)
+returns c = rw (c.all_decided-options.ensures, c.all_decided-orderings.ensures, chosen_filled 32 _ _ _ c.open_items-rest.ensures, chosen_filled 64 _ _ _ c.open_items-rest_orderings.ensures)

@@ -1,17 +1,14 @@
 -- Texts printed on a page one after the other are one text.
-use Rattle.std.proofs.Common.{◌≡◌, ℕ, ◌+◌, ◌≤◌, List, [], ◌∷◌, ◌++◌, length, refl, sym, ap, ap₂, subst, ◌∙◌, arith, length-append, take, get_or, drop, drop-cons, drop_of_length-le, add-one, ◌<◌}
+use Rattle.std.proofs.Common.{◌≡◌, ℕ, ◌+◌, ◌≤◌, List, [], ◌∷◌, ◌++◌, length, refl, sym, ap, ap₂, subst, ◌∙◌, arith, length-append, get_or, drop, drop-cons, drop_of_length-le, add-one, ◌<◌}
 use Rattle.shape.specs.LineText.{decimal, fields_text}
 use Rattle.print.specs.Put.{put}
 use Rattle.print.specs.Page.{Room, Printed}
 use Rattle.print.specs.declared.page.Page.{Page}
-use Rattle.print.proofs.PutLaws.{put_none, put_append, put_length, put_shows}
+use Rattle.print.proofs.PutLaws.{put_none, put_append, put_length}
 
 module _ {before after : Page} {text : List ℕ} (printed : Printed before after text) where
   pub printed_size : length after.bytes.now ≡ length before.bytes.now
   printed_size = ap length printed.shows ∙ put_length before.at text before.bytes.now
-
-pub printed_shows : {before after : Page} {text : List ℕ} → Room before text → Printed before after text → take after.at after.bytes.now ≡ take before.at before.bytes.now ++ text
-printed_shows {before} {text = text} room x = rw (x.ends, x.shows) (put_shows text before.bytes.now before.at room.fits)
 
 -- ---- what is printed so far
 pub printed_nothing : (page : Page) → Printed page page []

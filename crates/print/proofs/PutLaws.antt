@@ -5,7 +5,6 @@ use mathlib.Core.List.{List, [], ◌∷◌, ◌++◌, append_assoc}
 use native.Mathlib.Omega.{arith}
 use lib.ListN.{length, drop, set, length-set, length-append}
 use lib.Seq.{set_comm, set-append_seam}
-use Rattle.std.proofs.Common.{take, append-nil, add-one, take-suc-set}
 use Rattle.print.specs.Put.{put}
 use Rattle.shape.proofs.DigitLaws.{last_digits, digits_length}
 
@@ -68,15 +67,3 @@ digits_step at n out (suc k) h =
     rw z (put_append at (last_digits k (n / 10)) ((48 + n % 10) ∷ []) out
     ∙ ap (λ (j : ℕ). set (put at (last_digits k (n / 10)) out) (at + j) (48 + n % 10)) e
     ∙ sym (put_set at (last_digits k (n / 10)) out (at + k) (48 + n % 10) (omega arith)))
-
--- what stood before the bytes stands there still, and they stand behind it
-pub put_shows : (l out : List ℕ) (at : ℕ) → at + length l ≤ length out → take (at + length l) (put at l out) ≡ take at out ++ l
-unfolding put
-put_shows [] out at h =
-    let e : at + 0 ≡ at = omega arith in
-    rw e (sym (append-nil (take at out)))
-put_shows (b ∷ l) out at h =
-    let e : at + suc (length l) ≡ at + 1 + length l = omega arith in
-    let k = length-set out at b in
-    let first : take (at + 1) (set out at b) ≡ take at out ++ b ∷ [] = rw (add-one at) (take-suc-set out at b (omega arith)) in
-    rw e (put_shows l (set out at b) (at + 1) (omega arith) ∙ ap (λ (z : List ℕ). z ++ l) first ∙ append_assoc (take at out) (b ∷ []) l)

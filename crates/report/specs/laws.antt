@@ -1,4 +1,3 @@
-pub mod Copied
 pub mod Chosen
 pub mod Places
 pub mod Best

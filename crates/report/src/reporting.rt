@@ -1,9 +1,8 @@
 // The report in a lent buffer.
-ghost use Rattle.std.specs.Prelude.{◌++◌, ◌≡◌, ◌≤◌, length, take, drop};
+ghost use Rattle.std.specs.Prelude.{◌≡◌};
 ghost use Rattle.report.specs.Answer.{too_short, report_answer, report_buffer};
 
 use crate::page::put_report;
-use shape::Place;
 use sheet::{Answer, Refusal};
 
 // The answer, and how many bytes the report has.
@@ -13,27 +12,13 @@ pub struct Reported {
     pub size: usize,
 }
 
+// A refusal of the buffer: no byte of it is written.
 fn too_short() -> Reported
     ensures { result ≡ too_short }
 {
     Reported {
-        answer: Answer::Refused {
-            place: Place { line: 0, column: 0 },
-            why: Refusal::OutputTooShort,
-        },
+        answer: Answer::refused(Refusal::OutputTooShort),
         size: 0,
-    }
-}
-
-// Copies the first n bytes of a page to the start of a buffer, and leaves every byte past them alone.
-fn copy(page: &[u8], out: &mut [u8], n: usize)
-    requires { (n ≤ length page.now) × (n ≤ length out.old) }
-    ensures { out.new ≡ take n page.now ++ drop n out.old }
-{
-    let mut i: usize = 0;
-    while i < n {
-        out[i] = page[i];
-        i += 1;
     }
 }
 
@@ -47,7 +32,7 @@ pub fn report(text: &[u8], out: &mut [u8]) -> Reported
     if out.len() < size {
         return too_short();
     }
-    copy(&page, out, size);
+    out[..size].copy_from_slice(&page[..size]);
     Reported {
         answer: Answer::Accepted,
         size,

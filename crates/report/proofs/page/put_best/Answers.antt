@@ -3,24 +3,32 @@ use native.Mathlib.Omega.{arith}
 use Rattle.report.specs.laws.Parts.{value_fits, places_fit, options_fit, orderings_fit, all_printed}
 use Rattle.report.proofs.page.put_best.Goals as goal
 
-pub put_two-p-requires : goal.put_two-p-requires
-put_two-p-requires c = (value_fits _ c.requires.recorded _ _ c.search-found.ensures c.sequence-sequenced.ensures c.requires.room).fits
+pub put_line-requires : goal.put_line-requires
+put_line-requires c = value_fits _ c.requires.recorded _ _ c.search-found.ensures c.sequence-sequenced.ensures c.requires.room
 
-pub put_places-q-requires : goal.put_places-q-requires
-put_places-q-requires c = places_fit _ c.requires.recorded _ _ c.search-found.ensures c.sequence-sequenced.ensures c.requires.room c.put_two-p.ensures
+pub put_places-requires : goal.put_places-requires
+put_places-requires c = places_fit _ c.requires.recorded _ _ c.search-found.ensures c.sequence-sequenced.ensures c.requires.room c.put_line.ensures
 
-pub put_options-r-requires : goal.put_options-r-requires
-put_options-r-requires c =
+pub put_options-requires-clause-n_bound : goal.put_options-requires-clause-n_bound
+put_options-requires-clause-n_bound c =
     let few = c.requires.recorded.few_options in
     let size = c.requires.recorded.lengths.numbers in
-    record { n_bound = (few, omega arith); room = options_fit _ c.requires.recorded _ _ c.search-found.ensures c.sequence-sequenced.ensures c.requires.room c.put_two-p.ensures c.put_places-q.ensures }
+    (few, omega arith)
 
-pub put_orderings-requires : goal.put_orderings-requires
-put_orderings-requires c =
+pub put_options-requires-clause-room : goal.put_options-requires-clause-room
+put_options-requires-clause-room c =
+    options_fit _ c.requires.recorded _ _ c.search-found.ensures c.sequence-sequenced.ensures c.requires.room c.put_line.ensures c.put_places.ensures
+
+pub put_orderings-requires-clause-m_bound : goal.put_orderings-requires-clause-m_bound
+put_orderings-requires-clause-m_bound c =
     let few = c.requires.recorded.few_orderings in
     let firsts = c.requires.recorded.lengths.firsts in
     let seconds = c.requires.recorded.lengths.seconds in
-    record { m_bound = (few, (omega arith, omega arith)); room = orderings_fit _ c.requires.recorded _ _ c.search-found.ensures c.sequence-sequenced.ensures c.requires.room c.put_two-p.ensures c.put_places-q.ensures c.put_options-r.ensures }
+    (few, (omega arith, omega arith))
+
+pub put_orderings-requires-clause-room : goal.put_orderings-requires-clause-room
+put_orderings-requires-clause-room c =
+    orderings_fit _ c.requires.recorded _ _ c.search-found.ensures c.sequence-sequenced.ensures c.requires.room c.put_line.ensures c.put_places.ensures c.put_options.ensures
 
 pub returns : goal.returns
-returns c = all_printed _ c.requires.recorded _ _ c.search-found.ensures c.sequence-sequenced.ensures c.requires.room c.put_two-p.ensures c.put_places-q.ensures c.put_options-r.ensures c.put_orderings.ensures
+returns c = all_printed _ c.requires.recorded _ _ c.search-found.ensures c.sequence-sequenced.ensures c.requires.room c.put_line.ensures c.put_places.ensures c.put_options.ensures c.put_orderings.ensures

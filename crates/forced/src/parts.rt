@@ -22,12 +22,16 @@ pub fn kept_options(chart: &Chart, given: u32, kept_orderings: u64) -> u32
     kept
 }
 
-// The dropped options: those given, and those known before themselves.
+// The dropped options: those given, and those known before themselves. Here and below a row is read before any test, so that the
+// compiler leaves out the branch.
 pub fn dropped_options(given: u32, t: &[u32; 32], n: usize) -> u32
     requires { n ≤ 32 }
     ensures { Holds result n (λ i. has given i || has (get_or t.now i 0) i) }
 {
-    rows::set_where(n, |i| given.get(i) || t[i].get(i))
+    rows::set_where(n, |i| {
+        let before_itself = t[i].get(i);
+        given.get(i) || before_itself
+    })
 }
 
 // Whether an ordering a before b has lost an option, or b is known before a.
@@ -35,7 +39,8 @@ pub fn is_against(dropped: u32, t: &[u32; 32], a: usize, b: usize) -> bool
     requires { (a < 32) × (b < 32) }
     ensures { result ≡ (has dropped a || (has dropped b || has (get_or t.now b 0) a)) }
 {
-    dropped.get(a) || dropped.get(b) || t[b].get(a)
+    let known = t[b].get(a);
+    dropped.get(a) || dropped.get(b) || known
 }
 
 // The dropped orderings: those given, and those against what is known.
@@ -57,7 +62,7 @@ pub fn meets(a: u64, b: u64, n: usize) -> bool
 {
     let mut meet = false;
     for i in 0..n {
-        meet = meet || a.get(i) && b.get(i);
+        meet |= a.get(i) && b.get(i);
     }
     meet
 }

@@ -28,7 +28,7 @@ pub fn lacks_option(chart: &Chart, kept: u32, kept_orderings: u64) -> bool
     for u in 0..chart.ordering_count {
         let first = usize::from(chart.firsts[u]);
         let second = usize::from(chart.seconds[u]);
-        lacking = lacking || kept_orderings.get(u) && !(kept.get(first) && kept.get(second));
+        lacking |= kept_orderings.get(u) && !(kept.get(first) && kept.get(second));
     }
     lacking
 }

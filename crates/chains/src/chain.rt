@@ -73,8 +73,9 @@ pub fn find(
         return None;
     }
     let front = start(chart, known, x);
+    let first = front.level(hints);
     // most often no open item follows at all, and the page need not be laid out
-    if front.level(hints).is_empty() {
+    if first.is_empty() {
         return None;
     }
     let mut page = [Level {
@@ -83,6 +84,6 @@ pub fn find(
         from: 0,
     }; 64];
     let goal = goal_of(chart, after, x);
-    let last = levels(known, hints, front, goal, most, &mut page)?;
+    let last = levels(known, hints, front, first, goal, most, &mut page)?;
     walk_back(chart, after, left_orderings, hints, &page, x, last)
 }

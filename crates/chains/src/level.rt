@@ -88,11 +88,12 @@ impl Front {
     }
 }
 
-// Writes the levels down, from 1 on and fewer than `most`, until one closes the chain, and gives its number.
+// Writes the levels down, from the first one on and fewer than `most`, until one closes the chain, and gives its number.
 pub fn levels(
     known: &[u32; 32],
     hints: &Hints,
-    first: Front,
+    start: Front,
+    first: Level,
     goal: Goal,
     most: usize,
     page: &mut [Level; 64],
@@ -100,17 +101,20 @@ pub fn levels(
     requires { most ≤ 60 }
     ensures { IfSome result (λ l. l < 60) }
 {
-    let mut front = first;
+    let mut front = start;
+    let mut level = first;
     for l in 1..most {
-        let level = front.level(hints);
+        if level.is_empty() {
+            return None;
+        }
         page[l] = level;
         if !level.leading_to(goal).is_empty() {
             return Some(l);
         }
-        if level.is_empty() || l + 1 == most {
-            return None;
+        if l + 1 < most {
+            front = front.after(known, level);
+            level = front.level(hints);
         }
-        front = front.after(known, level);
     }
     None
 }

@@ -1,7 +1,7 @@
 -- The slots of a set with its lowest taken off.
-use Rattle.std.proofs.Common.{◌≡◌, refl, ap, sym, ◌∙◌, ℕ, zero, suc, ◌+◌, ◌*◌, ◌%◌, ◌^◌, ◌<◌, ◌≤◌, ◌≢◌, true, false, [], ◌∷◌, eqb, bit_and, arith}
-use Rattle.std.specs.Int.{bit_at, bit_not, trailing_zeros, w32}
-use Rattle.std.proofs.lemmas.Nat.Bits.{bit_at-trailing_zeros, bit_at_clear_same, bit_at_clear_other}
+use Rattle.std.proofs.Common.{◌≡◌, refl, ap, sym, ◌∙◌, ℕ, zero, suc, ◌+◌, ◌-◌, ◌/◌, ◌%◌, ◌^◌, ◌<◌, ◌≤◌, true, false, [], ◌∷◌, eqb, min, bit_and, arith}
+use Rattle.std.specs.Int.{bit_at, trailing_zeros, w32}
+use Rattle.std.proofs.lemmas.Nat.Bits.{bit_at_lowest, bit_at-suc, bit_at_and, bit_at-trailing_zeros}
 use Rattle.rows.specs.Bits.{has}
 use Rattle.rows.specs.laws.Bits.{has_none}
 use Rattle.rows.specs.Ones.{slots_from, slots}
@@ -31,14 +31,45 @@ slots_first (suc d) (suc k) i t s s' e l on off low low' high =
     rw (low i (omega arith), low' i (omega arith))
     (slots_first d k (i + 1) t s s' (omega arith) (omega arith) on off low low' (λ j a b. high j a (omega arith)))
 
+-- one less: the lowest bit goes, and those above it stay
+above_odd : (s : ℕ) → s % 2 ≡ 1 → (j : ℕ) → 0 < j → bit_at (s - 1) j ≡ bit_at s j
+above_odd s odd zero l = absurd (omega arith)
+above_odd s odd (suc j) l = bit_at-suc (s - 1) j ∙ ap (λ n. bit_at n j) (let e : (s - 1) / 2 ≡ s / 2 = omega arith in e) ∙ sym (bit_at-suc s j)
+
+one_less : (t s : ℕ) → 0 < s → bit_at s t ≡ 1 → ((j : ℕ) → j < t → bit_at s j ≡ 0) → (bit_at (s - 1) t ≡ 0) × ((j : ℕ) → t < j → bit_at (s - 1) j ≡ bit_at s j)
+one_less zero s pos on low =
+    let odd : s % 2 ≡ 1 = sym (bit_at_lowest s) ∙ on in
+    (bit_at_lowest (s - 1) ∙ (let e : (s - 1) % 2 ≡ 0 = omega arith in e), above_odd s odd)
+one_less (suc t) s pos on low =
+    let even : s % 2 ≡ 0 = sym (bit_at_lowest s) ∙ low 0 (omega arith) in
+    let half : (s - 1) / 2 ≡ s / 2 - 1 = omega arith in
+    let h : (bit_at (s / 2 - 1) t ≡ 0) × ((j : ℕ) → t < j → bit_at (s / 2 - 1) j ≡ bit_at (s / 2) j) =
+    one_less t (s / 2) (omega arith) (sym (bit_at-suc s t) ∙ on) (λ j l. sym (bit_at-suc s j) ∙ low (suc j) (omega arith)) in
+    (bit_at-suc (s - 1) t ∙ ap (λ n. bit_at n t) half ∙ h.0, above h.1 half)
+  where
+    above : ((j : ℕ) → t < j → bit_at (s / 2 - 1) j ≡ bit_at (s / 2) j) → (s - 1) / 2 ≡ s / 2 - 1 → (j : ℕ) → suc t < j → bit_at (s - 1) j ≡ bit_at s j
+    above h half zero l = absurd (omega arith)
+    above h half (suc j) l = bit_at-suc (s - 1) j ∙ ap (λ n. bit_at n j) half ∙ h j (omega arith) ∙ sym (bit_at-suc s j)
+
+min_same : (x : ℕ) → min x x ≡ x
+min_same x = omega arith
+
+min_none : (x : ℕ) → min x 0 ≡ 0
+min_none x = omega arith
+
+none_min : (x : ℕ) → min 0 x ≡ 0
+none_min x = omega arith
+
 -- without the lowest
-pub slots_lowest : (s : ℕ) → 0 < s → s < 2 ^ 32 → slots s ≡ trailing_zeros w32 s ∷ slots (bit_and s (bit_not w32 (1 * 2 ^ trailing_zeros w32 s % 2 ^ 32)))
+pub slots_lowest : (s : ℕ) → 0 < s → s < 2 ^ 32 → slots s ≡ trailing_zeros w32 s ∷ slots (bit_and s (s - 1))
 unfolding has
 slots_lowest s pos fits =
     let t : ℕ = trailing_zeros w32 s in
     let h : (t < 32) × (bit_at s t ≡ 1) × ((j : ℕ) → j < t → bit_at s j ≡ 0) = bit_at-trailing_zeros w32 s pos fits in
-    let s' : ℕ = bit_and s (bit_not w32 (1 * 2 ^ t % 2 ^ 32)) in
-    let same : (j : ℕ) → j < 32 → j ≢ t → has s' j ≡ has s j = λ j l d. ap (λ n. eqb n 1) (bit_at_clear_other w32 s t h.0 j l d) in
-    let low : (j : ℕ) → j < t → has s j ≡ false = λ j l. ap (λ n. eqb n 1) (h.2 j l) in
-    slots_first t 32 0 t s s' (omega arith) h.0 (ap (λ n. eqb n 1) h.1) (ap (λ n. eqb n 1) (bit_at_clear_same w32 s t h.0)) low
-    (λ j l. same j (omega (arith, h.0)) (λ e. omega (arith, e, l)) ∙ low j l) (λ j a b. sym (same j (omega arith) (λ e. omega (arith, e, a))))
+    let k : (bit_at (s - 1) t ≡ 0) × ((j : ℕ) → t < j → bit_at (s - 1) j ≡ bit_at s j) = one_less t s pos h.1 h.2 in
+    let s' : ℕ = bit_and s (s - 1) in
+    let off : bit_at s' t ≡ 0 = bit_at_and s (s - 1) t ∙ ap (min (bit_at s t)) k.0 ∙ min_none (bit_at s t) in
+    slots_first t 32 0 t s s' (omega arith) h.0 (ap (λ n. eqb n 1) h.1) (ap (λ n. eqb n 1) off)
+    (λ j l. ap (λ n. eqb n 1) (h.2 j l))
+    (λ j l. ap (λ n. eqb n 1) (bit_at_and s (s - 1) j ∙ ap (λ n. min n (bit_at (s - 1) j)) (h.2 j l) ∙ none_min (bit_at (s - 1) j)))
+    (λ j a b. sym (ap (λ n. eqb n 1) (bit_at_and s (s - 1) j ∙ ap (min (bit_at s j)) (k.1 j a) ∙ min_same (bit_at s j))))

@@ -20,7 +20,7 @@ impl Iterator for Ones {
             return None;
         }
         let i = self.0.trailing_zeros() as usize;
-        self.0 &= !(1 << i);
+        self.0 &= self.0 - 1;
         Some(i)
     }
 }

@@ -9,18 +9,24 @@ use crate::links::is_linked;
 use chart::Chart;
 
 // Whether a number names an item of the sheet.
-fn names_item(x: u8, n: usize, m: usize) -> bool
-    ensures { OnlyIf result (Named n m x) }
+fn names_item(x: u8, option_count: usize, ordering_count: usize) -> bool
+    ensures { OnlyIf result (Named option_count ordering_count x) }
 {
     let x = usize::from(x);
-    if x < 32 { x < n } else { x - 32 < m }
+    if x < 32 {
+        x < option_count
+    } else {
+        x - 32 < ordering_count
+    }
 }
 
 // Whether all numbers name items of the sheet.
-pub fn all_named(chain: &[u8], n: usize, m: usize) -> bool
-    ensures { OnlyIf result (AllNamed chain.now (length chain.now) n m) }
+pub fn all_named(chain: &[u8], option_count: usize, ordering_count: usize) -> bool
+    ensures { OnlyIf result (AllNamed chain.now (length chain.now) option_count ordering_count) }
 {
-    chain.iter().all(|x| names_item(*x, n, m))
+    chain
+        .iter()
+        .all(|x| names_item(*x, option_count, ordering_count))
 }
 
 // Whether the items are each linked to the next, and the last to the first.

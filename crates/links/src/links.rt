@@ -9,9 +9,9 @@ use rows::Slots;
 
 // The option at which item x begins or ends: an option itself, an ordering's own in `ends`.
 #[tactic(auto, using(crate::specs::laws::Links::at_option, crate::specs::laws::Links::at_ordering))]
-pub fn option_at(ends: &[u8], n: usize, m: usize, x: u8) -> u8
-    requires { AreSlots n m ends.now × Named n m x }
-    ensures { OptionAt ends.now n x result }
+pub fn option_at(ends: &[u8], option_count: usize, ordering_count: usize, x: u8) -> u8
+    requires { AreSlots option_count ordering_count ends.now × Named option_count ordering_count x }
+    ensures { OptionAt ends.now option_count x result }
 {
     if x < 32 { x } else { ends[usize::from(x - 32)] }
 }

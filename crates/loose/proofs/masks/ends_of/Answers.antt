@@ -10,5 +10,5 @@ loop-u-init c = ends_none _ _
 
 pub loop-u-preserved : goal.loop-u-preserved
 loop-u-preserved c =
-    let end = c.from.ensures ∙ get_or-take c.args.m c.args.ends.now c.loop-u.u 0 (search rules) in
+    let end = c.from.ensures ∙ get_or-take c.args.ordering_count c.args.ends.now c.loop-u.u 0 (search rules) in
     ends_step _ _ c.loop-u.invariant c.get.ensures (c.put_if-options.ensures ∙ ap (λ z. with_if c.loop-u.options z c.get.result) end)

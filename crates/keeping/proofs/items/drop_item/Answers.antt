@@ -9,4 +9,4 @@ returns-then-x-lt32 c = rw (lt-ltb _ _ c.if-x-lt32.true, c.put.ensures)
 
 pub returns-else-x-lt32 : goal.returns-else-x-lt32
 unfolding with_item_dropped
-returns-else-x-lt32 c = rw (le-ltb _ _ c.if-x-lt32.false, c.put.ensures)
+returns-else-x-lt32 c = rw (le-ltb _ _ c.if-x-lt32.false, c.put-else-x-lt32.ensures)

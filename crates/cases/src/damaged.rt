@@ -7,7 +7,7 @@ use std::io::Write;
 // Whether the record is recorded, what the writer answers, and whether its buffer is untouched.
 fn one_record<W: Write>(to: &mut W, s: Sheet) -> io::Result<()> {
     print_bool(to, record::is_recorded(s))?;
-    let mut out = [35u8; 80];
+    let mut out = [b'#'; 80];
     let w = writer::write(s, &mut out);
     print_answer(to, w.answer)?;
     print_number(to, w.size)?;
@@ -15,101 +15,58 @@ fn one_record<W: Write>(to: &mut W, s: Sheet) -> io::Result<()> {
     end_line(to)
 }
 
+// A record, once it is damaged.
+fn damaged<W: Write, F: FnOnce(&mut Sheet)>(to: &mut W, s: Sheet, damage: F) -> io::Result<()>
+    requires { F.IsAlwaysCallable damage }
+{
+    let mut sheet = s;
+    damage(&mut sheet);
+    one_record(to, sheet)
+}
+
 fn counts<W: Write>(to: &mut W, s: Sheet) -> io::Result<()> {
-    let mut a = s;
-    a.catalogue_lines = 513;
-    one_record(to, a)?;
-    let mut b = s;
-    b.catalogue_lines = 1;
-    one_record(to, b)?;
-    let mut c = s;
-    c.option_count = 33;
-    one_record(to, c)?;
-    let mut d = s;
-    d.option_count = 3;
-    one_record(to, d)?;
-    let mut e = s;
-    e.ordering_count = 65;
-    one_record(to, e)?;
-    let mut f = s;
-    f.ordering_count = 3;
-    one_record(to, f)
+    damaged(to, s, |sheet| sheet.catalogue_lines = 513)?;
+    damaged(to, s, |sheet| sheet.catalogue_lines = 1)?;
+    damaged(to, s, |sheet| sheet.option_count = 33)?;
+    damaged(to, s, |sheet| sheet.option_count = 3)?;
+    damaged(to, s, |sheet| sheet.ordering_count = 65)?;
+    damaged(to, s, |sheet| sheet.ordering_count = 3)
 }
 
 fn catalogue<W: Write>(to: &mut W, s: Sheet) -> io::Result<()> {
-    let mut a = s;
-    a.letters[0] = 70;
-    one_record(to, a)?;
-    let mut b = s;
-    b.letters[1] = 0;
-    one_record(to, b)?;
-    let mut c = s;
-    c.befores[0] = 0;
-    one_record(to, c)?;
-    let mut d = s;
-    d.afters[1] = 251;
-    one_record(to, d)?;
-    let mut e = s;
-    e.afters[0] = 3;
-    one_record(to, e)
+    damaged(to, s, |sheet| sheet.letters[0] = 70)?;
+    damaged(to, s, |sheet| sheet.letters[1] = 0)?;
+    damaged(to, s, |sheet| sheet.befores[0] = 0)?;
+    damaged(to, s, |sheet| sheet.afters[1] = 251)?;
+    damaged(to, s, |sheet| sheet.afters[0] = 3)
 }
 
 fn options<W: Write>(to: &mut W, s: Sheet) -> io::Result<()> {
-    let mut a = s;
-    a.numbers[0] = 251;
-    one_record(to, a)?;
-    let mut b = s;
-    b.numbers[1] = 1;
-    one_record(to, b)?;
-    let mut c = s;
-    c.numbers[2] = 9;
-    one_record(to, c)?;
-    let mut d = s;
-    d.weights[3] = 10000;
-    one_record(to, d)
+    damaged(to, s, |sheet| sheet.numbers[0] = 251)?;
+    damaged(to, s, |sheet| sheet.numbers[1] = 1)?;
+    damaged(to, s, |sheet| sheet.numbers[2] = 9)?;
+    damaged(to, s, |sheet| sheet.weights[3] = 10000)
 }
 
 fn orderings<W: Write>(to: &mut W, s: Sheet) -> io::Result<()> {
-    let mut a = s;
-    a.firsts[0] = 5;
-    one_record(to, a)?;
-    let mut b = s;
-    b.seconds[1] = 2;
-    one_record(to, b)?;
-    let mut c = s;
-    c.firsts[1] = 1;
-    c.seconds[1] = 3;
-    one_record(to, c)?;
-    let mut d = s;
-    d.ordering_weights[1] = 10000;
-    one_record(to, d)
+    damaged(to, s, |sheet| sheet.firsts[0] = 5)?;
+    damaged(to, s, |sheet| sheet.seconds[1] = 2)?;
+    damaged(to, s, |sheet| {
+        sheet.firsts[1] = 1;
+        sheet.seconds[1] = 3;
+    })?;
+    damaged(to, s, |sheet| sheet.ordering_weights[1] = 10000)
 }
 
 fn unused<W: Write>(to: &mut W, s: Sheet) -> io::Result<()> {
-    let mut a = s;
-    a.letters[2] = 67;
-    one_record(to, a)?;
-    let mut b = s;
-    b.befores[511] = 1;
-    one_record(to, b)?;
-    let mut c = s;
-    c.afters[2] = 1;
-    one_record(to, c)?;
-    let mut d = s;
-    d.numbers[31] = 1;
-    one_record(to, d)?;
-    let mut e = s;
-    e.weights[4] = 1;
-    one_record(to, e)?;
-    let mut f = s;
-    f.firsts[63] = 1;
-    one_record(to, f)?;
-    let mut g = s;
-    g.seconds[2] = 1;
-    one_record(to, g)?;
-    let mut h = s;
-    h.ordering_weights[63] = 1;
-    one_record(to, h)
+    damaged(to, s, |sheet| sheet.letters[2] = 67)?;
+    damaged(to, s, |sheet| sheet.befores[511] = 1)?;
+    damaged(to, s, |sheet| sheet.afters[2] = 1)?;
+    damaged(to, s, |sheet| sheet.numbers[31] = 1)?;
+    damaged(to, s, |sheet| sheet.weights[4] = 1)?;
+    damaged(to, s, |sheet| sheet.firsts[63] = 1)?;
+    damaged(to, s, |sheet| sheet.seconds[2] = 1)?;
+    damaged(to, s, |sheet| sheet.ordering_weights[63] = 1)
 }
 
 pub fn each_damage<W: Write>(to: &mut W, s: Sheet) -> io::Result<()> {

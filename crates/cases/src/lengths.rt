@@ -4,12 +4,14 @@ use sheet::Sheet;
 use std::io;
 use std::io::Write;
 
-const TEXT: [u8; 60] = *b"C 3 1\nX 2 4\nF 1 5\nF 2 3\nF 3 4\nF 4 2\nU 1 3 6\nU 2 1 1\nT 3 7 9\n";
+pub const TEXT: [u8; 60] =
+    *b"C 3 1\nX 2 4\nF 1 5\nF 2 3\nF 3 4\nF 4 2\nU 1 3 6\nU 2 1 1\nT 3 7 9\n";
 
 // Writes into the first n bytes of a buffer of `#`.
 fn one_length<W: Write>(to: &mut W, s: Sheet, n: usize) -> io::Result<()> {
-    let mut out = [35u8; 80];
-    let w = write_part(s, &mut out, n);
+    let mut out = [b'#'; 80];
+    let end = n.min(out.len());
+    let w = writer::write(s, &mut out[..end]);
     print_number(to, n)?;
     print_answer(to, w.answer)?;
     print_number(to, w.size)?;
@@ -18,13 +20,6 @@ fn one_length<W: Write>(to: &mut W, s: Sheet, n: usize) -> io::Result<()> {
         print_bool(to, begins(&out, w.size, &TEXT))?;
     }
     end_line(to)
-}
-
-fn write_part(s: Sheet, out: &mut [u8], n: usize) -> writer::Written {
-    if n <= out.len() {
-        return writer::write(s, &mut out[..n]);
-    }
-    writer::write(s, out)
 }
 
 pub fn each_length<W: Write>(to: &mut W, s: Sheet) -> io::Result<()> {

@@ -14,7 +14,7 @@ fn main(rt: HostRuntime) -> io::Result<()> {
     let n = input::fill(&mut rt.stdin(), &mut all)?;
     let mut out = rt.stdout();
     texts::each_text(&mut out, &all[..n])?;
-    let r = reader::read(b"C 3 1\nX 2 4\nF 1 5\nF 2 3\nF 3 4\nF 4 2\nU 1 3 6\nU 2 1 1\nT 3 7 9\n");
+    let r = reader::read(&lengths::TEXT);
     lengths::each_length(&mut out, r.sheet)?;
     damaged::each_damage(&mut out, r.sheet)
 }

@@ -10,33 +10,30 @@ pub fn print_number<W: Write>(to: &mut W, n: usize) -> io::Result<()> {
 // The number, the line and the column; three zeros where nothing is refused.
 pub fn print_answer<W: Write>(to: &mut W, a: Answer) -> io::Result<()> {
     match a {
-        Answer::Accepted => to.write_all(b"0 0 0 "),
+        Answer::Accepted => write!(to, "0 0 0 "),
         Answer::Refused { place, why } => {
-            print_number(to, sheet::number_of(why))?;
-            print_number(to, place.line)?;
-            print_number(to, place.column)
+            write!(
+                to,
+                "{} {} {} ",
+                sheet::number_of(why),
+                place.line,
+                place.column
+            )
         }
     }
 }
 
 pub fn print_bool<W: Write>(to: &mut W, b: bool) -> io::Result<()> {
-    if b {
-        to.write_all(b"yes ")
-    } else {
-        to.write_all(b"no ")
-    }
+    write!(to, "{} ", if b { "yes" } else { "no" })
 }
 
 pub fn end_line<W: Write>(to: &mut W) -> io::Result<()> {
-    to.write_all(b"\n")
+    writeln!(to)
 }
 
 // Whether a buffer begins with these n bytes, and the text has no others.
 pub fn begins(out: &[u8], n: usize, text: &[u8]) -> bool {
-    if n <= out.len() {
-        return &out[..n] == text;
-    }
-    false
+    n <= out.len() && &out[..n] == text
 }
 
 // Whether every byte from n on is `#`.

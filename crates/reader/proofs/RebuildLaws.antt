@@ -61,19 +61,7 @@ module _ {c o r : ℕ} {k k' l l' m m' i i' w w' p p' q q' z z' : List ℕ} wher
   same_sheet : k ≡ k' → l ≡ l' → m ≡ m' → i ≡ i' → w ≡ w' → p ≡ p' → q ≡ q' → z ≡ z'
       → ◌≡◌ {A = Sheet} (record { catalogue_lines = c; option_count = o; ordering_count = r; letters = k; befores = l; afters = m; numbers = i; weights = w; firsts = p; seconds = q; ordering_weights = z })
       (record { catalogue_lines = c; option_count = o; ordering_count = r; letters = k'; befores = l'; afters = m'; numbers = i'; weights = w'; firsts = p'; seconds = q'; ordering_weights = z' })
-  same_sheet ek el em ei ew ep eq ez = λ j. record {
-    catalogue_lines = c;
-    option_count = o;
-    ordering_count = r;
-    letters = ek j;
-    befores = el j;
-    afters = em j;
-    numbers = ei j;
-    weights = ew j;
-    firsts = ep j;
-    seconds = eq j;
-    ordering_weights = ez j;
-  }
+  same_sheet ek el em ei ew ep eq ez = cc
 
 -- one entry more
 put_entry : (k n : ℕ) (l : List ℕ) (x : ℕ) → n ≡ suc k → x ≡ get_or l k 0 → set (trim k l) k x ≡ trim n l

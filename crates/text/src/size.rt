@@ -7,7 +7,7 @@ use sheet::Sheet;
 
 // How many bytes the catalogue lines have; their letters do not matter.
 fn catalogue_size(s: &Sheet) -> usize
-    requires { s.now.catalogue_lines ≤ 512 }
+    requires n_bound { s.now.catalogue_lines ≤ 512 }
     ensures { (result ≡ length (catalogue_text s.now.catalogue_lines 0 [] s.now.befores s.now.afters)) × (result ≤ 65 * s.now.catalogue_lines) }
 {
     let mut size: usize = 0;
@@ -21,7 +21,7 @@ fn catalogue_size(s: &Sheet) -> usize
 
 // How many bytes the F lines have.
 fn options_size(s: &Sheet) -> usize
-    requires { s.now.option_count ≤ 32 }
+    requires n_bound { s.now.option_count ≤ 32 }
     ensures { (result ≡ length (options_text s.now.option_count 0 s.now.numbers s.now.weights)) × (result ≤ 65 * s.now.option_count) }
 {
     let mut size: usize = 0;
@@ -35,7 +35,7 @@ fn options_size(s: &Sheet) -> usize
 
 // How many bytes the U lines have.
 fn orderings_size(s: &Sheet) -> usize
-    requires { s.now.ordering_count ≤ 64 }
+    requires n_bound { s.now.ordering_count ≤ 64 }
     ensures { (result ≡ length (orderings_text s.now.ordering_count 0 s.now.firsts s.now.seconds s.now.ordering_weights)) × (result ≤ 65 * s.now.ordering_count) }
 {
     let mut size: usize = 0;
@@ -49,11 +49,11 @@ fn orderings_size(s: &Sheet) -> usize
 }
 
 // How many bytes the text of a record has.
-pub fn text_size(s: Sheet) -> usize
-    requires { (s.catalogue_lines ≤ 512) × ((s.option_count ≤ 32) × (s.ordering_count ≤ 64)) }
-    ensures { result ≡ length (text_of s) }
+pub fn text_size(s: &Sheet) -> usize
+    requires { (s.now.catalogue_lines ≤ 512) × ((s.now.option_count ≤ 32) × (s.now.ordering_count ≤ 64)) }
+    ensures { result ≡ length (text_of s.now) }
 {
-    let sections = catalogue_size(&s) + options_size(&s) + orderings_size(&s);
+    let sections = catalogue_size(s) + options_size(s) + orderings_size(s);
     let options_line = s.catalogue_lines + 1;
     let orderings_line = options_line + s.option_count;
     let trailer_line = orderings_line + s.ordering_count;

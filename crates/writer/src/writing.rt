@@ -30,10 +30,10 @@ pub fn write(s: Sheet, out: &mut [u8]) -> Written
     if !is_recorded(s) {
         return not_written(Refusal::NotRecorded);
     }
-    if out.len() < text_size(s) {
+    if out.len() < text_size(&s) {
         return not_written(Refusal::OutputTooShort);
     }
-    let size = put_text(s, out);
+    let size = put_text(&s, out);
     Written {
         answer: Answer::Accepted,
         size,

@@ -12,15 +12,14 @@ use wire::{is_accepted, lent_both, pack_answer, with_list};
 fn limits_in(bytes: &[u8], list: &[u8]) -> LimitsAnswer
     ensures { result ≡ limits_in bytes.now list.now }
 {
-    let s = record_in(bytes);
-    let d = decisions_of(list);
-    let x = limits::limits(s, d);
-    let first = x.answer;
-    let recorded = record::is_recorded(s);
-    let spelled = are_decisions(list);
-    let answer = with_list(first, recorded, spelled);
-    let limits = x.limits;
-    LimitsAnswer { answer, limits }
+    let sheet = record_in(bytes);
+    let limited = limits::limits(sheet, decisions_of(list));
+    let answer = with_list(
+        limited.answer,
+        record::is_recorded(sheet),
+        are_decisions(list),
+    );
+    LimitsAnswer { answer, ..limited }
 }
 
 // Writes the forced decisions and the limits, and answers 1 for a contradiction.
@@ -35,16 +34,12 @@ pub extern "C" fn wharftoken_limits(
         × ((forced.new ≡ forced_bytes «record».now decisions.now forced.old limits.old)
         × (limits.new ≡ limits_numbers «record».now decisions.now forced.old limits.old)) }
 {
-    let x = limits_in(record, decisions);
-    let first = x.answer;
-    let answer = lent_both(first, forced.len(), 96, limits.len(), 386);
+    let limited = limits_in(record, decisions);
+    let answer = lent_both(limited.answer, forced.len(), 96, limits.len(), 386);
     if !is_accepted(answer) {
         return pack_answer(answer, 0);
     }
-    let l = x.limits;
-    let d = l.decisions;
-    put_decisions(d, forced);
-    put_limits(l, limits);
-    let count = contradictions(l.contradiction);
-    pack_answer(answer, count)
+    put_decisions(limited.limits.decisions, forced);
+    put_limits(&limited.limits, limits);
+    pack_answer(answer, contradictions(limited.limits.contradiction))
 }

@@ -10,13 +10,11 @@ use wire::{is_accepted, lent, pack_answer};
 pub extern "C" fn wharftoken_read(text: &[u8], record: &mut [u8]) -> u64
     ensures { (result ≡ read_result text.now «record».old) × («record».new ≡ read_record text.now «record».old) }
 {
-    let x = reader::read(text);
-    let first = x.answer;
-    let answer = lent(first, record.len(), 1894);
+    let reading = reader::read(text);
+    let answer = lent(reading.answer, record.len(), 1894);
     if !is_accepted(answer) {
         return pack_answer(answer, 0);
     }
-    let s = x.sheet;
-    put_record(s, record);
+    put_record(&reading.sheet, record);
     pack_answer(answer, 0)
 }

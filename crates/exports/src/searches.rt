@@ -16,15 +16,12 @@ pub extern "C" fn wharftoken_search(
 ) -> u64
     ensures { SearchShown «record».now tolerance decisions.old totals.old result decisions.new totals.new }
 {
-    let s = record_in(record);
-    let x = search::search(s, tolerance);
-    let first = x.answer;
-    let answer = lent_both(first, decisions.len(), 96, totals.len(), 2);
+    let found = search::search(record_in(record), tolerance);
+    let answer = lent_both(found.answer, decisions.len(), 96, totals.len(), 2);
     if !is_accepted(answer) {
         return pack_answer(answer, 0);
     }
-    let d = x.decisions;
-    put_decisions(d, decisions);
-    put_totals(x.value, x.ceiling, totals);
+    put_decisions(found.decisions, decisions);
+    put_totals(found.value, found.ceiling, totals);
     pack_answer(answer, 0)
 }

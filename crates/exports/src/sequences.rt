@@ -11,15 +11,17 @@ use wire::{is_accepted, lent, pack_answer, places_in_use, put_places, with_list}
 fn sequence_in(bytes: &[u8], list: &[u8]) -> Sequenced
     ensures { result ≡ sequence_in bytes.now list.now }
 {
-    let s = record_in(bytes);
-    let d = decisions_of(list);
-    let x = sequence::sequence(s, d);
-    let first = x.answer;
-    let recorded = record::is_recorded(s);
-    let spelled = are_decisions(list);
-    let answer = with_list(first, recorded, spelled);
-    let places = x.places;
-    Sequenced { answer, places }
+    let sheet = record_in(bytes);
+    let sequenced = sequence::sequence(sheet, decisions_of(list));
+    let answer = with_list(
+        sequenced.answer,
+        record::is_recorded(sheet),
+        are_decisions(list),
+    );
+    Sequenced {
+        answer,
+        ..sequenced
+    }
 }
 
 // Writes the catalogue number at each place and answers how many places are not 0: one for each kept option.
@@ -27,14 +29,11 @@ fn sequence_in(bytes: &[u8], list: &[u8]) -> Sequenced
 pub extern "C" fn wharftoken_sequence(record: &[u8], decisions: &[u8], places: &mut [u8]) -> u64
     ensures { (result ≡ sequence_result «record».now decisions.now places.old) × (places.new ≡ sequence_places «record».now decisions.now places.old) }
 {
-    let x = sequence_in(record, decisions);
-    let first = x.answer;
-    let answer = lent(first, places.len(), 32);
+    let sequenced = sequence_in(record, decisions);
+    let answer = lent(sequenced.answer, places.len(), 32);
     if !is_accepted(answer) {
         return pack_answer(answer, 0);
     }
-    let numbers = x.places;
-    put_places(numbers, places);
-    let count = places_in_use(numbers);
-    pack_answer(answer, count)
+    put_places(sequenced.places, places);
+    pack_answer(answer, places_in_use(sequenced.places))
 }

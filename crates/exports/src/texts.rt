@@ -14,9 +14,8 @@ pub extern "C" fn wharftoken_report(text: &[u8], out: &mut [u8]) -> u64
     ensures { (result ≡ packed_answer (report_answer text.now out.old).answer (report_answer text.now out.old).size)
         × (out.new ≡ report_buffer text.now out.old) }
 {
-    let r = report::report(text, out);
-    let answer = r.answer;
-    pack_answer(answer, r.size)
+    let reported = report::report(text, out);
+    pack_answer(reported.answer, reported.size)
 }
 
 // Writes the text of a record and answers its length.
@@ -25,8 +24,6 @@ pub extern "C" fn wharftoken_write(record: &[u8], out: &mut [u8]) -> u64
     ensures { (result ≡ packed_answer (write_answer (record_in «record».now) out.old).answer (write_answer (record_in «record».now) out.old).size)
         × (out.new ≡ write_buffer (record_in «record».now) out.old) }
 {
-    let s = record_in(record);
-    let w = writer::write(s, out);
-    let answer = w.answer;
-    pack_answer(answer, w.size)
+    let written = writer::write(record_in(record), out);
+    pack_answer(written.answer, written.size)
 }

@@ -8,9 +8,9 @@ unfolding limits_in
 returns c =
     rw (
       c.with_list-answer.ensures,
-      c.are_decisions-spelled.ensures,
-      c.is_recorded-recorded.ensures,
-      c.limits-x.ensures,
-      c.decisions_of-d.ensures,
-      c.record_in-s.ensures,
+      c.are_decisions.ensures,
+      c.is_recorded.ensures,
+      c.limits-limited.ensures,
+      c.decisions_of.ensures,
+      c.record_in-sheet.ensures,
     ) refl

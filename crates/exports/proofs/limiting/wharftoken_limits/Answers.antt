@@ -11,13 +11,13 @@ pack_answer-requires c =
     out_packs _ _
     c.lent_both-answer.ensures.0
     c.is_accepted.ensures
-    (limits_placed _ _ c.limits_in-x.ensures)
+    (limits_placed _ _ c.limits_in-limited.ensures)
     _ (omega arith)
 
 pub returns-then-not-is_accepted : goal.returns-then-not-is_accepted
 returns-then-not-is_accepted c =
     limits_untouched _ _ _ _
-    c.limits_in-x.ensures
+    c.limits_in-limited.ensures
     c.lent_both-answer.ensures
     c.is_accepted.ensures
     (ap not c.if-not-is_accepted.true)
@@ -26,11 +26,11 @@ returns-then-not-is_accepted c =
 pub returns : goal.returns
 returns c =
     limits_shown _ _ _ _
-    c.limits_in-x.ensures
+    c.limits_in-limited.ensures
     c.lent_both-answer.ensures
     c.is_accepted.ensures
     (ap not c.if-not-is_accepted.false)
     c.put_decisions.ensures
     c.put_limits.ensures
-    c.contradictions-count.ensures.0
+    c.contradictions.ensures.0
     c.pack_answer-2.ensures

@@ -11,13 +11,13 @@ pack_answer-requires c =
     out_packs _ _
     c.lent-answer.ensures.0
     c.is_accepted.ensures
-    (read_placed _ c.read-x.ensures)
+    (read_placed _ c.read-reading.ensures)
     _ (omega arith)
 
 pub returns-then-not-is_accepted : goal.returns-then-not-is_accepted
 returns-then-not-is_accepted c =
     read_untouched _ _
-    c.read-x.ensures
+    c.read-reading.ensures
     c.lent-answer.ensures
     c.is_accepted.ensures
     (ap not c.if-not-is_accepted.true)
@@ -26,7 +26,7 @@ returns-then-not-is_accepted c =
 pub put_record-requires : goal.put_record-requires
 put_record-requires c = record {
   counts_bound = counts_small _
-      c.read-x.ensures
+      c.read-reading.ensures
       (out_before _ _ c.lent-answer.ensures.0 c.is_accepted.ensures (ap not c.if-not-is_accepted.false));
   in_bounds = c.lent-answer.ensures.1 (passed c.is_accepted.ensures (ap not c.if-not-is_accepted.false));
 }
@@ -34,7 +34,7 @@ put_record-requires c = record {
 pub returns : goal.returns
 returns c =
     read_accepted _ _
-    c.read-x.ensures
+    c.read-reading.ensures
     c.lent-answer.ensures
     c.is_accepted.ensures
     (ap not c.if-not-is_accepted.false)

@@ -11,14 +11,14 @@ pack_answer-requires c =
     out_packs _ _
     c.lent_both-answer.ensures.0
     c.is_accepted.ensures
-    (search_placed _ _ c.search-x.ensures)
+    (search_placed _ _ c.search-found.ensures)
     _ (omega arith)
 
 pub returns-then-not-is_accepted : goal.returns-then-not-is_accepted
 returns-then-not-is_accepted c =
     search_untouched _ _ _ _
-    c.record_in-s.ensures
-    c.search-x.ensures
+    c.record_in.ensures
+    c.search-found.ensures
     c.lent_both-answer.ensures
     c.is_accepted.ensures
     (ap not c.if-not-is_accepted.true)
@@ -27,8 +27,8 @@ returns-then-not-is_accepted c =
 pub returns : goal.returns
 returns c =
     search_shown _ _ _ _
-    c.record_in-s.ensures
-    c.search-x.ensures
+    c.record_in.ensures
+    c.search-found.ensures
     c.lent_both-answer.ensures
     c.is_accepted.ensures
     (ap not c.if-not-is_accepted.false)

@@ -11,13 +11,13 @@ pack_answer-requires c =
     out_packs _ _
     c.lent-answer.ensures.0
     c.is_accepted.ensures
-    (sequence_placed _ _ c.sequence_in-x.ensures)
+    (sequence_placed _ _ c.sequence_in-sequenced.ensures)
     _ (omega arith)
 
 pub returns-then-not-is_accepted : goal.returns-then-not-is_accepted
 returns-then-not-is_accepted c =
     sequence_untouched _ _ _
-    c.sequence_in-x.ensures
+    c.sequence_in-sequenced.ensures
     c.lent-answer.ensures
     c.is_accepted.ensures
     (ap not c.if-not-is_accepted.true)
@@ -26,10 +26,10 @@ returns-then-not-is_accepted c =
 pub returns : goal.returns
 returns c =
     sequence_accepted _ _ _
-    c.sequence_in-x.ensures
+    c.sequence_in-sequenced.ensures
     c.lent-answer.ensures
     c.is_accepted.ensures
     (ap not c.if-not-is_accepted.false)
     c.put_places.ensures
-    c.places_in_use-count.ensures.0
+    c.places_in_use.ensures.0
     c.pack_answer-2.ensures

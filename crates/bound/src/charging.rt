@@ -59,8 +59,8 @@ fn charge_items(
         let Some(y) = next_holding(hints.positive, &left.orderings, chart.ordering_count, x) else {
             return;
         };
-        let e = charge_one(chart, known, after, &*hints, y, most, left);
-        hints_after(chart, hints, e, round.options, round.orderings, &*left);
+        let e = charge_one(chart, known, after, hints, y, most, left);
+        hints_after(chart, hints, e, round.options, round.orderings, left);
         x = next_item(y, e);
     }
 }
@@ -76,7 +76,7 @@ fn charge_rounds(
     requires { (round.enough ≤ largest_sum + 1) × LeftFor chart.now left.old }
     ensures { KeepsCharged chart.now known.now 0 result left.old left.new }
 {
-    let mut hints = hints_of(chart, round.options, round.orderings, &*left, 0);
+    let mut hints = hints_of(chart, round.options, round.orderings, left, 0);
     charge_items(chart, known, after, round, 2, left, &mut hints);
     charge_items(chart, known, after, round, 3, left, &mut hints);
     charge_items(chart, known, after, round, 60, left, &mut hints);

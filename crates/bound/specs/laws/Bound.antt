@@ -17,8 +17,8 @@ module _ {chart : Chart} {known : List ℕ} where
   charged_nothing l h = record { few = l; left_in = h; keeps = λ v d sh c. c }
 
   -- no charge
-  pub charged_none : {left : Left} → LeftFor chart left → ChargesMore chart known 0 left left
-  charged_none {left} h = record { few = omega arith; left_in = h; keeps = λ before v d sh c. subst (λ z. ChargedOn chart v d z left) (let q : before ≡ before + 0 = omega arith in q) c }
+  pub no_charge : {left : Left} → LeftFor chart left → ChargesMore chart known 0 left left
+  no_charge {left} h = record { few = omega arith; left_in = h; keeps = λ before v d sh c. subst (λ z. ChargedOn chart v d z left) (let q : before ≡ before + 0 = omega arith in q) c }
 
   -- one charge
   pub charged_one : {e : ℕ} {left left' : Left} {chain : List ℕ} {k : ℕ} → ChargedAs known chart.firsts chart.seconds chart.option_count chart.ordering_count chain k e left.options left.orderings left'.options left'.orderings → ChargesMore chart known e left left'

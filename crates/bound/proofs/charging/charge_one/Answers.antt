@@ -1,9 +1,9 @@
 -- Whatever the finder gives: the charge checks it.
-use Rattle.bound.specs.laws.Bound.{charged_none, charged_one}
+use Rattle.bound.specs.laws.Bound.{no_charge, charged_one}
 use Rattle.bound.proofs.charging.charge_one.Goals as goal
 
 pub returns-in_default : goal.returns-in_default
-returns-in_default c = charged_none c.requires.1
+returns-in_default c = no_charge c.requires.1
 
 pub returns : goal.returns
 returns c = charged_one c.charge.ensures

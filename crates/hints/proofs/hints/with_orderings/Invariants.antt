@@ -1,9 +1,0 @@
--- Safe and ending: orderings are counted up.
-use Rattle.std.proofs.Common.{◌-◌, ◌≤◌}
-use Rattle.hints.proofs.hints.with_orderings.Given as goal
-
-abbrev pub invariant-loop-u : goal.invariant-loop-u
-invariant-loop-u l = l.u ≤ l.chart.ordering_count
-
-abbrev pub decreases-loop-u : goal.decreases-loop-u
-decreases-loop-u l = l.chart.ordering_count - l.u

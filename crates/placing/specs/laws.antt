@@ -1,4 +1,3 @@
-pub mod Told
 pub mod Next
 pub mod Slots
 pub mod Placed

@@ -1,6 +1,6 @@
 -- The search over the rows ends at the first option that is left and before x.
 use Rattle.std.proofs.Common.{rules}
-use Rattle.placing.specs.laws.Told.{some_told}
+use Rattle.rows.specs.laws.Slots.{some_told}
 use Rattle.placing.proofs.place.waits.Goals as goal
 
 pub returns : goal.returns

@@ -1,6 +1,6 @@
 -- The search over the rows ends at the first option that stands before itself.
 use Rattle.std.proofs.Common.{rules}
-use Rattle.placing.specs.laws.Told.{some_told}
+use Rattle.rows.specs.laws.Slots.{some_told}
 use Rattle.sequence.proofs.edges.has_cycle.Goals as goal
 
 pub returns : goal.returns

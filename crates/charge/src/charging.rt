@@ -31,8 +31,8 @@ pub fn measure_all(chart: &Chart, left: &Left, chain: &[u8]) -> Measure
 }
 
 // The chain is checked again, and only then is anything taken: whoever found it need promise nothing. What is charged comes back.
-pub fn charge(chart: &Chart, known: &[u32], chain: &[u8], left: &mut Left) -> u32
-    requires { (chart.now.option_count ≤ length known.now) × LeftFor chart.now left.old }
+pub fn charge(chart: &Chart, known: &[u32; 32], chain: &[u8], left: &mut Left) -> u32
+    requires { LeftFor chart.now left.old }
     ensures { ChargedAs known.now chart.now.firsts chart.now.seconds chart.now.option_count chart.now.ordering_count chain.now (length chain.now) result left.old.options left.old.orderings left.new.options left.new.orderings }
 {
     if chain.is_empty() || chain.len() > 64 {

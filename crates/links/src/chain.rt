@@ -30,8 +30,8 @@ pub fn all_named(chain: &[u8], option_count: usize, ordering_count: usize) -> bo
 }
 
 // Whether the items are each linked to the next, and the last to the first.
-pub fn closed(chart: &Chart, known: &[u32], chain: &[u8]) -> bool
-    requires { (chart.now.option_count ≤ length known.now) × AllNamed chain.now (length chain.now) chart.now.option_count chart.now.ordering_count × (0 < length chain.now) }
+pub fn closed(chart: &Chart, known: &[u32; 32], chain: &[u8]) -> bool
+    requires { AllNamed chain.now (length chain.now) chart.now.option_count chart.now.ordering_count × (0 < length chain.now) }
     ensures { OnlyIf result (T (closes (ends_only chart.now.option_count chart.now.ordering_count chart.now.firsts chart.now.seconds) (cell known.now) (members chain.now (length chain.now)))) }
 {
     let last = chain.len() - 1;

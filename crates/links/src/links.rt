@@ -1,6 +1,6 @@
 // When one item is linked to another, by their numbers: option i is i, ordering u is 32 + u. They stay numbers: a chain is kept as bytes, and
 // what is proved of chains (`numbered`, `take_all`) speaks of them so.
-ghost use Rattle.std.specs.Prelude.{◌≡◌, ◌≤◌, length};
+ghost use Rattle.std.specs.Prelude.{◌≡◌};
 ghost use Rattle.numbered.specs.Items.{Named};
 ghost use Rattle.links.specs.Links.{AreSlots, OptionAt, linked_in};
 
@@ -18,8 +18,8 @@ pub fn option_at(ends: &[u8], option_count: usize, ordering_count: usize, x: u8)
 
 // Item x is linked to item y: where x ends is known before where y begins, or they are two orderings that meet.
 #[tactic(auto, using(crate::specs::laws::Links::linked_known, crate::specs::laws::Links::linked_apart, crate::specs::laws::Links::linked_orderings))]
-pub fn is_linked(chart: &Chart, known: &[u32], x: u8, y: u8) -> bool
-    requires { (chart.now.option_count ≤ length known.now) × Named chart.now.option_count chart.now.ordering_count x × Named chart.now.option_count chart.now.ordering_count y }
+pub fn is_linked(chart: &Chart, known: &[u32; 32], x: u8, y: u8) -> bool
+    requires { Named chart.now.option_count chart.now.ordering_count x × Named chart.now.option_count chart.now.ordering_count y }
     ensures { result ≡ linked_in chart.now.option_count chart.now.ordering_count known.now chart.now.firsts chart.now.seconds x y }
 {
     let from = option_at(&chart.seconds, chart.option_count, chart.ordering_count, x);

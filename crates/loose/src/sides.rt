@@ -1,5 +1,5 @@
 // Whether nothing open lies on one side of an item. Items are numbers, as the theorem loose_told has them.
-ghost use Rattle.std.specs.Prelude.{◌≤◌, ◌<◌, length};
+ghost use Rattle.std.specs.Prelude.{◌<◌};
 ghost use Rattle.numbered.specs.Items.{Named};
 ghost use Rattle.links.specs.Links.{OnlyIf};
 ghost use Rattle.loose.specs.Loose.{ClosedEnds, FreeSide, LooseBy};
@@ -27,14 +27,14 @@ pub fn has_closed_ends(opens: u32, first: u8, second: u8, x: u8) -> bool
 // Item x is loose, if it is open. `after` is `known` transposed; `begins` and `ends` are where open orderings begin and end.
 pub fn is_loose(
     chart: &Chart,
-    known: &[u32],
-    after: &[u32],
+    known: &[u32; 32],
+    after: &[u32; 32],
     opens: u32,
     begins: u32,
     ends: u32,
     x: u8,
 ) -> bool
-    requires { (chart.now.option_count ≤ length known.now) × (chart.now.option_count ≤ length after.now) × Named chart.now.option_count chart.now.ordering_count x }
+    requires { Named chart.now.option_count chart.now.ordering_count x }
     ensures { OnlyIf result (LooseBy known.now after.now chart.now.firsts chart.now.seconds chart.now.option_count opens begins ends x) }
 {
     let first = links::option_at(&chart.firsts, chart.option_count, chart.ordering_count, x);

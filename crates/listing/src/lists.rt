@@ -41,7 +41,8 @@ pub fn put_options(page: &mut Page, options: &[Decision; 32], numbers: &[u8], n:
     }
 }
 
-// Prints those of the first m orderings that are dropped.
+// Prints those of the first m orderings that are dropped. Apart from the options, whose lines have one number and not two: a common
+// loop would take a closure for what is now one call.
 pub fn put_orderings(
     page: &mut Page,
     orderings: &[Decision; 64],

@@ -30,6 +30,7 @@ pub fn put_best(page: &mut Page, s: Sheet)
     let found = search::search(s, 0);
     let decisions = found.decisions;
     let sequenced = sequence::sequence(s, decisions);
+    // `as`, since no `From` takes a u32 to a usize.
     page.put_line(b'V', &[found.value as usize, found.ceiling as usize]);
     put_places(page, &sequenced.places);
     put_options(page, &decisions.options, &s.numbers, s.option_count);

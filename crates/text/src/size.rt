@@ -1,4 +1,4 @@
-// How many bytes the sections of a text have, and the whole. No line has more than 65: its letter, its end, and a space and 20 digits three times.
+// How many bytes the sections of a text have, each a loop as it is printed, and the whole. No line has more than 65: its letter, its end, and a space and 20 digits three times.
 ghost use Rattle.std.specs.Prelude.{[], ◌≡◌, ◌≤◌, ◌*◌, length};
 ghost use Rattle.sheet.specs.Text.{catalogue_text, options_text, orderings_text, text_of};
 

@@ -1,4 +1,5 @@
-// One item more decided. An item has one number: option i is i, ordering u is 32 + u.
+// One item more decided. An item has one number: option i is i, ordering u is 32 + u. It stays a number: chains hold items as bytes, and the
+// theorems on links, charges and loose items speak of it.
 ghost use Rattle.std.specs.Prelude.{◌≡◌, ◌<◌};
 ghost use Rattle.keeping.specs.Sets.{nothing_given, with_item_kept, with_item_dropped};
 

@@ -18,7 +18,7 @@ pub struct Searched {
 
 impl Searched {
     // A refusal: its number, no place, and an all-zero result.
-    pub fn refused(why: Refusal) -> Searched
+    fn refused(why: Refusal) -> Searched
         ensures { result ≡ refused why }
     {
         Searched {

@@ -43,12 +43,12 @@ pub fn goal_of(chart: &Chart, after: &[u32; 32], item: usize) -> Goal
 }
 
 impl Level {
-    pub fn is_empty(self) -> bool {
+    pub(crate) fn is_empty(self) -> bool {
         self.options | self.seconds == 0
     }
 
     // The part of the level that leads to a goal.
-    pub fn leading_to(self, goal: Goal) -> Level {
+    pub(crate) fn leading_to(self, goal: Goal) -> Level {
         Level {
             options: self.options & goal.before,
             seconds: self.seconds & goal.ends,
@@ -68,7 +68,7 @@ fn joined_rows(table: &[u32; 32], set: u32) -> u32 {
 
 impl Front {
     // The next level: open options that are reached, and ends of open orderings that begin there, each met for the first time.
-    pub fn level(self, hints: &Hints) -> Level {
+    pub(crate) fn level(self, hints: &Hints) -> Level {
         Level {
             options: self.reach & hints.positive & !self.met_options,
             seconds: joined_rows(&hints.soft, self.from) & !self.met_seconds,

@@ -1,4 +1,5 @@
 // A half-decided sheet after forcing: what is open, what is kept in weight and what can still be had.
+// For the crates above: counts handed in must be those of a record.
 #![tactic(auto)]
 
 mod opened;

@@ -1,4 +1,5 @@
 // Items kept or dropped in a half-decided sheet held as sets: one item more decided, and the open items that are kept beside the forced ones.
+// For the crates above: an item's number is below 96.
 #![tactic(auto)]
 
 mod items;

@@ -36,7 +36,7 @@ fn beside(row: u32, open_options: u32, counts: &[u32; 32]) -> u32 {
 }
 
 impl Counts {
-    pub fn new(chart: &Chart, open_orderings: u64) -> Counts {
+    pub(crate) fn new(chart: &Chart, open_orderings: u64) -> Counts {
         Counts {
             starts: counted(&chart.firsts, open_orderings, chart.ordering_count),
             stops: counted(&chart.seconds, open_orderings, chart.ordering_count),
@@ -44,7 +44,7 @@ impl Counts {
     }
 
     // An option counts by its clashes three times over, and by the smaller of its two sides.
-    pub fn option_score(&self, out: u32, into: u32, open_options: u32) -> u32 {
+    pub(crate) fn option_score(&self, out: u32, into: u32, open_options: u32) -> u32 {
         let after = beside(out, open_options, &self.starts);
         let before = beside(into, open_options, &self.stops);
         let clashes = (out & into & open_options).count_ones();
@@ -52,7 +52,7 @@ impl Counts {
     }
 
     // Ordering u counts by the smaller of what follows its end and what leads to its beginning, both ends included.
-    pub fn ordering_score(&self, chart: &Chart, back: &[u32; 32], u: usize) -> u32
+    pub(crate) fn ordering_score(&self, chart: &Chart, back: &[u32; 32], u: usize) -> u32
         requires { u < 64 }
     {
         let a = end_at(&chart.firsts, u);

@@ -16,7 +16,7 @@ use Rattle.given.specs.Given.{choice_of, undecided}
 use Rattle.given.specs.Filled.{filled}
 use Rattle.given.specs.laws.Filled.{filled_same}
 use Rattle.sheet.specs.Lines.{lines_of}
-use Rattle.subscription.specs.Charted.{Charted}
+use Rattle.chart.specs.Chart.{ShowsSheet}
 use Rattle.sheet.specs.declared.sheet.Sheet.{Sheet}
 use Rattle.rules.specs.Best.{AnswerTo}
 use Rattle.keeping.specs.Sets.{chosen_list}
@@ -54,10 +54,10 @@ answered_is s f =
     ) refl
 
 -- The chart's answer is the sheet's.
-pub answers_of : (s : Sheet) (tolerance : ℕ) (chart : Chart) → Charted s chart → (f : Found) → FoundBy chart tolerance f
-    → {r : Searched} → r ≡ accepted f s.option_count s.ordering_count → Answers s tolerance r
-answers_of s tolerance chart charted f by e = (
+pub answers_of : (s : Sheet) (tolerance : ℕ) (chart : Chart) → chart.option_count ≡ s.option_count → chart.ordering_count ≡ s.ordering_count → ShowsSheet (lines_of s) chart
+    → (f : Found) → FoundBy chart tolerance f → {r : Searched} → r ≡ accepted f s.option_count s.ordering_count → Answers s tolerance r
+answers_of s tolerance chart options orderings shows f by e = (
   answer_in s.option_count s.ordering_count f,
-  subst (λ k. AnswerTo (lines_of s) tolerance (answer_in k s.ordering_count f)) charted.options (subst (λ k. AnswerTo (lines_of s) tolerance (answer_in chart.option_count k f)) charted.orderings (by (lines_of s) charted.shows)),
+  subst (λ k. AnswerTo (lines_of s) tolerance (answer_in k s.ordering_count f)) options (subst (λ k. AnswerTo (lines_of s) tolerance (answer_in chart.option_count k f)) orderings (by (lines_of s) shows)),
   e ∙ answered_is s f,
 )

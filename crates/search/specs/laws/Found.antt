@@ -1,4 +1,4 @@
--- What a whole search left is an answer to the tolerance, for whatever sheet the arrays show.
+-- What a whole search left is an answer to the tolerance, for whatever sheet the chart shows.
 use Rattle.std.specs.Prelude.{◌≡◌, Bool, false, List, ◌∷◌, ◌++◌, ℕ, zero, suc, ◌+◌, ◌-◌, min, Option, Some, None}
 use Rattle.chart.specs.declared.chart.Chart.{Chart}
 use Rattle.std.proofs.Math.Path.{refl}

@@ -1,4 +1,4 @@
--- What the code keeps beside the forced items may be kept, on every sheet that the arrays show.
+-- What the code keeps beside the forced items may be kept, on every sheet that the chart shows.
 use Rattle.std.specs.Prelude.{◌≡◌, refl, Bool, not, ◌||◌, ◌⊎◌, List, ℕ, ◌+◌, ◌-◌, ◌≤◌, ◌<◌, T}
 use Rattle.chart.specs.declared.chart.Chart.{Chart}
 use Rattle.std.proofs.Math.Path.{sym, ap}

@@ -1,4 +1,4 @@
--- From nothing decided: the best value, the limit of the whole sheet, and what a search starts from, for whatever sheet the arrays show.
+-- From nothing decided: the best value, the limit of the whole sheet, and what a search starts from, for whatever sheet the chart shows.
 use Rattle.std.specs.Prelude.{◌≡◌, refl, Bool, List, ◌∷◌, ◌++◌, ◌⊎◌, ℕ, zero, suc, ◌+◌}
 use Rattle.chart.specs.declared.chart.Chart.{Chart}
 use Rattle.std.proofs.Common.{sym, subst, ap, ◌∙◌, inl, inr, arith}

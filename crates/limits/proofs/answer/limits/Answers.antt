@@ -1,4 +1,4 @@
--- The refusals are tested in the table's order; then the arrays show the sheet's subscription, and the law `limits_told` says the rest.
+-- The refusals are tested in the table's order; then the chart shows the sheet's subscription, and the law `limits_told` says the rest.
 use mathlib.Core.Path.{sym, ◌∙◌}
 use Rattle.limits.specs.laws.Answer.{limits_told, limits_not_recorded, limits_wrong_decisions}
 use Rattle.limits.proofs.answer.limits.Goals as goal

@@ -1,4 +1,4 @@
--- The refusals are tested in the table's order; then the arrays show the sheet's subscription, and the laws `sequence_found` and `sequence_missing` say the rest.
+-- The refusals are tested in the table's order; then the chart shows the sheet's subscription, and the laws `sequence_found` and `sequence_missing` say the rest.
 use mathlib.Core.Path.{sym, ◌∙◌}
 use Rattle.sequence.specs.laws.Answer.{sequence_not_recorded, sequence_decided_past, sequence_open_within, sequence_found, sequence_missing}
 use Rattle.sheet.proofs.ObeyLaws.{recorded_limits}

@@ -1,7 +1,6 @@
 // Chains charged one after another.
 ghost use Rattle.std.specs.Prelude.{◌+◌, ◌≤◌};
 ghost use Rattle.half.specs.Weights.{largest_sum};
-ghost use Rattle.residual.specs.Left.{LeftFor};
 ghost use Rattle.bound.specs.Bound.{ChargesMore, KeepsCharged, BoundedAs};
 
 use chains::{Hints, find};
@@ -28,7 +27,7 @@ fn charge_one(
     most: usize,
     left: &mut Left,
 ) -> u32
-    requires { (most ≤ 60) × LeftFor chart.now left.old }
+    requires { most ≤ 60 }
     ensures { ChargesMore chart.now known.now result left.old left.new }
 {
     let Some(chain) = find(chart, known, after, hints, &left.orderings, x, most) else {
@@ -48,7 +47,7 @@ fn charge_items(
     left: &mut Left,
     hints: &mut Hints,
 )
-    requires { (most ≤ 60) × (round.enough ≤ largest_sum + 1) × LeftFor chart.now left.old × (hints.old.charged ≤ 10551136) }
+    requires { (most ≤ 60) × (round.enough ≤ largest_sum + 1) × (hints.old.charged ≤ 10551136) }
     ensures { KeepsCharged chart.now known.now hints.old.charged hints.new.charged left.old left.new }
 {
     let mut x: usize = 0;
@@ -73,7 +72,7 @@ fn charge_rounds(
     round: Round,
     left: &mut Left,
 ) -> u32
-    requires { (round.enough ≤ largest_sum + 1) × LeftFor chart.now left.old }
+    requires { round.enough ≤ largest_sum + 1 }
     ensures { KeepsCharged chart.now known.now 0 result left.old left.new }
 {
     let mut hints = hints_of(chart, round.options, round.orderings, left, 0);

@@ -1,7 +1,6 @@
 // One charge: the least that a member's consequences hold, taken from the consequences of every member.
 ghost use Rattle.std.specs.Prelude.{◌≤◌, length};
 ghost use Rattle.links.specs.Links.{AllNamed};
-ghost use Rattle.residual.specs.Left.{LeftFor};
 ghost use Rattle.residual.specs.TakenAll.{Measured};
 ghost use Rattle.charge.specs.Charges.{ChargedAs};
 
@@ -17,7 +16,7 @@ pub struct Measure {
 }
 
 pub fn measure_all(chart: &Chart, left: &Left, chain: &[u8]) -> Measure
-    requires { AllNamed chain.now (length chain.now) chart.now.option_count chart.now.ordering_count × (length chain.now ≤ 64) × LeftFor chart.now left.now }
+    requires { AllNamed chain.now (length chain.now) chart.now.option_count chart.now.ordering_count × (length chain.now ≤ 64) }
     ensures { Measured chart.now.firsts chart.now.seconds chart.now.option_count chart.now.ordering_count left.now.options left.now.orderings chain.now (length chain.now) result.least result.was × (result.least ≤ 4259775) }
 {
     let mut was: [u32; 64] = [0; 64];
@@ -32,7 +31,6 @@ pub fn measure_all(chart: &Chart, left: &Left, chain: &[u8]) -> Measure
 
 // The chain is checked again, and only then is anything taken: whoever found it need promise nothing. What is charged comes back.
 pub fn charge(chart: &Chart, known: &[u32; 32], chain: &[u8], left: &mut Left) -> u32
-    requires { LeftFor chart.now left.old }
     ensures { ChargedAs known.now chart.now.firsts chart.now.seconds chart.now.option_count chart.now.ordering_count chain.now (length chain.now) result left.old.options left.old.orderings left.new.options left.new.orderings }
 {
     if chain.is_empty() || chain.len() > 64 {

@@ -2,7 +2,6 @@
 ghost use Rattle.std.specs.Prelude.{◌≤◌, ◌<◌, ℕ, true, IfSome};
 ghost use Rattle.numbered.specs.Items.{Named};
 ghost use Rattle.links.specs.Links.{OnlyIf};
-ghost use Rattle.residual.specs.Left.{LeftFor};
 ghost use Rattle.keeping.specs.Keeping.{MayKeep, AddedTo, KeptMore};
 
 use chart::Chart;
@@ -31,7 +30,7 @@ fn may_keep(
     left: &Left,
     x: u8,
 ) -> bool
-    requires { LeftFor chart.now left.now × Named chart.now.option_count chart.now.ordering_count x }
+    requires { Named chart.now.option_count chart.now.ordering_count x }
     ensures { OnlyIf result (MayKeep chart.now known.now after.now o.options o.begins o.ends left.now o.spare x) }
 {
     let held = held_by(chart, left, x);
@@ -62,7 +61,6 @@ pub fn keep_more(
     left: &Left,
     spare: u32,
 ) -> Option<Given>
-    requires { LeftFor chart.now left.now }
     ensures { IfSome result (KeptMore chart.now h.now after.now left.now spare g) }
 {
     let n = chart.option_count;

@@ -19,6 +19,13 @@ pub record LeftIn (n m : ℕ) (options orderings : List ℕ) : Type 0 where
   pub option : (i : ℕ) → get_or options i 0 ≤ 65535
   pub ordering : (u : ℕ) → get_or orderings u 0 ≤ 65535
 
+-- Each slot of a record has one, and none is above the greatest weight that a record could hold.
+pub record SmallEnough (options orderings : List ℕ) : Type 0 where
+  pub option_size : length options ≡ 32
+  pub ordering_size : length orderings ≡ 64
+  pub option : (i : ℕ) → get_or options i 0 ≤ 65535
+  pub ordering : (u : ℕ) → get_or orderings u 0 ≤ 65535
+
 -- At one slot: as much as is needed and is there.
 pub record TookAt (left : List ℕ) (i need : ℕ) (left' : List ℕ) (rest : ℕ) : Type 0 where
   pub is : left' ≡ set left i (get_or left i 0 - need)

@@ -1,4 +1,5 @@
 pub mod Taken
 pub mod TakenAll
 pub mod Started
+pub mod Left
 pub mod Shown

@@ -1,15 +1,17 @@
 // Before anything is charged: the weights of the open items, and nothing elsewhere.
 ghost use Rattle.std.specs.Prelude.{◌≤◌, length};
+ghost use Rattle.residual.specs.Taken.{SmallEnough};
 ghost use Rattle.residual.specs.Started.{StartsAs};
 
 use chart::Chart;
 use rows::Slots;
 
-// What is left to charge of each item's weight.
+// What is left to charge of each item's weight: never more than the greatest weight that a record could hold.
 #[derive(Clone, Copy)]
 pub struct Left {
     pub options: [u32; 32],
     pub orderings: [u32; 64],
+    pub ghost small: { SmallEnough options orderings },
 }
 
 // The weights of the items of a set, and nothing from slot n on.

@@ -2,7 +2,7 @@
 ghost use Rattle.std.specs.Prelude.{◌≡◌, ◌≤◌, ◌<◌, length};
 ghost use Rattle.graph.specs.Graph.{EndsAreSlots};
 ghost use Rattle.numbered.specs.Items.{Named};
-ghost use Rattle.residual.specs.Left.{LeftFor, held_of};
+ghost use Rattle.residual.specs.Left.{held_of};
 ghost use Rattle.residual.specs.Taken.{LeftIn, TookAt, TookTo, Took, held_in, touches_in};
 
 use crate::starting::Left;
@@ -85,7 +85,7 @@ pub fn take_at(left: &mut [u32], i: usize, need: u32) -> u32
 // What the consequences of item x of a chart hold together.
 #[inline]
 pub fn held_by(chart: &Chart, left: &Left, x: u8) -> u32
-    requires { Named chart.now.option_count chart.now.ordering_count x × LeftFor chart.now left.now }
+    requires { Named chart.now.option_count chart.now.ordering_count x }
     ensures { (result ≡ held_of chart.now left.now x) × (result ≤ 4259775) }
 {
     let ends = Ends {

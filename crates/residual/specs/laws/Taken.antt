@@ -11,7 +11,7 @@ use Rattle.rules.specs.laws.search.Items.{Item}
 use Rattle.rules.specs.laws.search.Residual.{Residual, Lower, option_goes, ordering_goes, held}
 use Rattle.numbered.specs.Items.{Named, ends_only}
 use Rattle.numbered.specs.laws.Items.{numbered_option, numbered_ordering}
-use Rattle.residual.specs.Taken.{residual_in, LeftIn, TookAt, touches_in, TookTo, Took, held_in}
+use Rattle.residual.specs.Taken.{residual_in, LeftIn, SmallEnough, TookAt, touches_in, TookTo, Took, held_in}
 
 module _ (firsts seconds : List ℕ) (n m : ℕ) (options orderings : List ℕ) where
   pub held_ordering : (x : ℕ) → Named n m x → 32 ≤ x → held_in n m firsts seconds options orderings x ≡ get_or orderings (x - 32) 0
@@ -122,6 +122,16 @@ unfolding residual_in
 left_lower n m options orderings options' orderings' p q le s = record {
   option_size = (let a = s.option_size in omega arith);
   ordering_size = (let a = s.ordering_size in omega arith);
+  option = λ i. let a = le.option i in let b = s.option i in omega arith;
+  ordering = λ u. let a = le.ordering u in let b = s.ordering u in omega arith;
+}
+
+pub small_lower : (options orderings options' orderings' : List ℕ) → length options' ≡ length options → length orderings' ≡ length orderings
+    → Lower (residual_in options' orderings') (residual_in options orderings) → SmallEnough options orderings → SmallEnough options' orderings'
+unfolding residual_in
+small_lower options orderings options' orderings' p q le s = record {
+  option_size = p ∙ s.option_size;
+  ordering_size = q ∙ s.ordering_size;
   option = λ i. let a = le.option i in let b = s.option i in omega arith;
   ordering = λ u. let a = le.ordering u in let b = s.ordering u in omega arith;
 }

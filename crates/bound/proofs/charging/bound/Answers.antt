@@ -1,6 +1,6 @@
 -- What the rounds charge from the start, or nothing where nothing need be charged.
 use native.Mathlib.Omega.{arith}
-use Rattle.residual.specs.laws.Started.{starts_left}
+use Rattle.residual.specs.laws.Left.{left_for}
 use Rattle.bound.specs.laws.Bound.{charged_nothing, bounded}
 use Rattle.bound.proofs.charging.bound.Goals as goal
 
@@ -8,4 +8,4 @@ pub returns-then-enough-gt0 : goal.returns-then-enough-gt0
 returns-then-enough-gt0 c = bounded _ c.start-left.ensures.options c.start-left.ensures.orderings c.charge_rounds-charged.ensures
 
 pub returns-else-enough-gt0 : goal.returns-else-enough-gt0
-returns-else-enough-gt0 c = bounded _ c.start-left.ensures.options c.start-left.ensures.orderings (charged_nothing (omega arith) (starts_left c.args.chart.now.ends.few_options c.args.chart.now.ends.few_orderings c.start-left.ensures.options c.start-left.ensures.orderings))
+returns-else-enough-gt0 c = bounded _ c.start-left.ensures.options c.start-left.ensures.orderings (charged_nothing (omega arith) (left_for c.args.chart.now c.start-left.result))

@@ -1,3 +1,4 @@
 pub mod Sets
 pub mod Keeping
+pub mod Flagged
 pub mod laws

@@ -1,3 +1,4 @@
 pub mod Shown
 pub mod Apart
 pub mod Keeping
+pub mod Flagged

@@ -1,3 +1,4 @@
 pub mod Appended
 pub mod Each
 pub mod Length
+pub mod Bytes

@@ -1,3 +1,4 @@
+pub mod Copied
 pub mod Chosen
 pub mod Places
 pub mod Best

@@ -1,3 +1,4 @@
 pub mod Found
 pub mod Answered
 pub mod Searched
+pub mod Shown

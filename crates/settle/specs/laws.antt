@@ -3,3 +3,4 @@ pub mod Forcing
 pub mod Keepable
 pub mod Stepping
 pub mod Items
+pub mod Rounds

@@ -1,2 +1,3 @@
 pub mod Charted
+pub mod Shown
 pub mod laws

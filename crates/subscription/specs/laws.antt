@@ -1,1 +1,2 @@
 pub mod Charted
+pub mod Shown

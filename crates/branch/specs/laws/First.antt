@@ -1,7 +1,7 @@
--- The first open item of two sets; no open item stands before it in the list of decisions.
-use Rattle.std.specs.Prelude.{◌≡◌, true, ℕ, ◌+◌, ◌-◌, ◌≤◌, ◌<◌, get_or, T, Some, None}
+-- One slot more that is not in the set; the first open item of two sets; no open item stands before it in the list of decisions.
+use Rattle.std.specs.Prelude.{◌≡◌, true, false, ◌⊎◌, ℕ, suc, ◌+◌, ◌-◌, ◌≤◌, ◌<◌, get_or, T, Some, None}
 use Rattle.chart.specs.declared.chart.Chart.{Chart}
-use Rattle.std.proofs.Common.{sym, subst, ◌∙◌, arith}
+use Rattle.std.proofs.Common.{sym, subst, ◌∙◌, inl, inr, eq-or-lt_of_le, le_of_suc-le-suc, arith}
 use Rattle.rules.specs.Decisions.{Open, is_open}
 use Rattle.rows.specs.Bits.{has}
 use Rattle.rows.specs.laws.Sets.{holds_at}
@@ -12,6 +12,13 @@ use Rattle.keeping.specs.laws.Shown.{none_before_item}
 use Rattle.settle.specs.laws.Items.{open_item}
 use Rattle.settle.specs.declared.settling.Settled.{Settled}
 use Rattle.branch.specs.First.{FirstOf, FirstItem}
+
+pub one_more : (set i : ℕ) → ((j : ℕ) → j < i → has set j ≡ false) → has set i ≡ false → (j : ℕ) → j < i + 1 → has set j ≡ false
+one_more set i before here j l = go (eq-or-lt_of_le (let k : j < suc i = omega arith in le_of_suc-le-suc k))
+  where
+    go : (j ≡ i) ⊎ (j < i) → has set j ≡ false
+    go (inl e) = subst (λ z. has set z ≡ false) (sym e) here
+    go (inr k) = before j k
 
 -- ---- options come first
 module _ {options orderings n m : ℕ} where

@@ -1,6 +1,6 @@
 -- One slot more in the search of a member, and what two members found make of an item.
-use Rattle.std.specs.Prelude.{◌≡◌, ℕ, ◌+◌, ◌<◌, ◌≤◌, true, false, Option, Some, None, IfNone}
-use Rattle.std.proofs.Common.{subst, arith}
+use Rattle.std.specs.Prelude.{◌≡◌, ℕ, ◌+◌, ◌<◌, ◌≤◌, Bool, true, false, ◌&&◌, refl, Option, Some, None, IfNone}
+use Rattle.std.proofs.Common.{sym, subst, ◌∙◌, arith}
 use borrow.Author.Count.{below_more}
 use Rattle.rows.specs.Bits.{has}
 use Rattle.picks.specs.Picked.{OneOf, Picked}
@@ -10,6 +10,13 @@ one_of_none set n = record { here = tt; none = λ j l. absurd (omega arith) }
 
 pub one_of_found : (set n : ℕ) {i : ℕ} → i < n → has set i ≡ true → OneOf set n (i + 1) (Some i)
 one_of_found set n l e = record { here = (l, e); none = tt }
+
+and_true : (a b : Bool) → (a && b) ≡ true → a ≡ true
+and_true true b e = refl
+and_true false b e = e
+
+pub one_of_taken : (set n : ℕ) (z : Bool) {i : ℕ} {h y : Bool} → i < n → h ≡ has set i → y ≡ (h && z) → y ≡ true → OneOf set n (i + 1) (Some i)
+one_of_taken set n z {i} {h} {y} l e f g = one_of_found set n l (sym e ∙ and_true h z (sym f ∙ g))
 
 -- a slot that was passed over is not in the set, or a member was found before
 pub one_of_passed : (set n : ℕ) {i : ℕ} (r : Option ℕ) → OneOf set n i r → IfNone r (has set i ≡ false) → OneOf set n (i + 1) r

@@ -52,6 +52,7 @@ pub fn walk_back(
 ) -> Option<Chain>
     requires { (x < 32 + chart.now.ordering_count) × (last < 60) }
 {
+    // A chain holds items as bytes. By `as`: an item is below 96, and try_from would bring a refusal that cannot come.
     let mut items: [u8; 64] = [0; 64];
     items[0] = x as u8;
     let mut item = x;

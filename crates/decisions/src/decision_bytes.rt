@@ -31,6 +31,7 @@ fn decisions_at<const N: usize>(bytes: &[u8], at: usize) -> [Decision; N]
     requires { (at ≤ 32) × (N ≤ 64) }
     ensures { result ≡ list_of N (λ i. choice_of (get_or bytes.now (at + i) 0)) }
 {
+    // By `as`: a slot is below 64, and try_from would bring a refusal that cannot come.
     let mut decisions = [Decision::Open; N];
     for i in 0..N {
         decisions[i] = decision_at(bytes, at, Slot(i as u8 + 1));

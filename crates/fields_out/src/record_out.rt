@@ -37,6 +37,7 @@ fn put_head(sheet: &Sheet, out: &mut [u8])
     requires in_bounds { 1894 ≤ length out.old }
     ensures { out.new ≡ put 0 (head_of sheet.now) out.old }
 {
+    // By `as`: the counts are below 65,536, and try_from would bring a refusal that cannot come.
     put_two(sheet.catalogue_lines as u16, out, 0);
     put_two(sheet.option_count as u16, out, 2);
     put_two(sheet.ordering_count as u16, out, 4);

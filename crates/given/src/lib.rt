@@ -1,6 +1,7 @@
 // What a decision list gives: its kept and its dropped items as sets, and such sets as a list; and whether it is open where it must be
 // or where it must not.
-// For the crates above: counts handed in must be those of a record.
+// For the crates above: counts handed in must be those of a record. They stay numbers: a bound in a clause is plainer than a type
+// that each index would have to be taken out of.
 #![tactic(auto)]
 
 mod choice;

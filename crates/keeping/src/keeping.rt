@@ -73,6 +73,7 @@ pub fn keep_more(
         ends,
         spare,
     };
+    // Items as bytes, by `as`: they are below 96, and try_from would bring a refusal that cannot come.
     let kept = keep_open(g.kept, h.open_options, n, |i| {
         may_keep(chart, &h.known, after, o, left, i as u8)
     });

@@ -46,6 +46,7 @@ impl<'a> Page<'a> {
         let width = decimal_width(n);
         let mut rest = n;
         for i in (0..width).rev() {
+            // By `as`: a digit, and try_from would bring a refusal that cannot come.
             self.bytes[self.at + i] = b'0' + (rest % 10) as u8;
             rest /= 10;
         }

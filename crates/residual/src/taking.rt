@@ -27,7 +27,8 @@ impl<'a> Ends<'a> {
         self.first[u] == x || self.second[u] == x
     }
 
-    // What item x's consequences hold together: an ordering itself, an option and its orderings.
+    // What item x's consequences hold together: an ordering itself, an option and its orderings. A byte goes to an index by `as`: with `From`
+    // the answers of `take` did not close.
     pub fn held_by(&self, options: &[u32], orderings: &[u32], x: u8) -> u32
         requires { Named self.now.option_count self.now.ordering_count x × LeftIn self.now.option_count self.now.ordering_count options.now orderings.now }
         ensures { (result ≡ held_in self.now.option_count self.now.ordering_count self.now.first.now self.now.second.now options.now orderings.now x) × (result ≤ 4259775) }

@@ -19,6 +19,7 @@ impl Iterator for Ones {
         if self.0 == 0 {
             return None;
         }
+        // By `as`: usize has no From<u32>.
         let i = self.0.trailing_zeros() as usize;
         self.0 &= self.0 - 1;
         Some(i)

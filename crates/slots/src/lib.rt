@@ -9,6 +9,7 @@ pub fn slot_table(numbers: &[u8], n: usize) -> [u8; 256]
     requires { NumbersDiffer n numbers.now × (n ≤ 32) }
     ensures { TableOf n numbers.now result }
 {
+    // By `as`: a slot is at most 32, and try_from would bring a refusal that cannot come.
     let mut table = [n as u8; 256];
     for (i, number) in numbers[..n].iter().enumerate() {
         table[usize::from(*number)] = i as u8;

@@ -4,7 +4,7 @@ ghost use Rattle.wire.specs.Packed.{packed, packed_answer, Fits};
 
 use sheet::Answer;
 
-// Four small numbers, sixteen bits each.
+// Four small numbers, sixteen bits each. By `as`: u64 has no From<usize>.
 fn pack(number: u64, line: usize, column: usize, count: usize) -> u64
     requires { (number < 65536) × ((line < 65536) × ((column < 65536) × (count < 65536))) }
     ensures { result ≡ packed number line column count }

@@ -17,6 +17,7 @@ pub fn put_places(places: [Number; 32], out: &mut [u8])
     requires { 32 ≤ length out.old }
     ensures { out.new ≡ put 0 (place_numbers places) out.old }
 {
+    // By `as`: a place is at most 32, and try_from would bring a refusal that cannot come.
     for i in 0..32 {
         out[i] = number_at(&places, Position(i as u8 + 1));
     }

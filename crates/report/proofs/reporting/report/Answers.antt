@@ -1,5 +1,5 @@
 -- The report is printed on a page that is long enough for any, and copied if the buffer is long enough too.
-use Rattle.std.proofs.Common.{◌++◌, drop, refl, ap, arith}
+use Rattle.std.proofs.Common.{◌++◌, drop, ap}
 use Rattle.report.specs.laws.Answer.{out_too_short, out_long_enough}
 use Rattle.report.specs.laws.Short.{report_short}
 use Rattle.report.proofs.reporting.report.Goals as goal

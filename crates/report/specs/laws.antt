@@ -3,6 +3,7 @@ pub mod Chosen
 pub mod Places
 pub mod Best
 pub mod Parts
+pub mod PartsInBytes
 pub mod Reading
 pub mod Place
 pub mod Short

@@ -44,17 +44,20 @@ module _ (f : ℕ → List ℕ) where
   unfolding each
   printed_one_more {i = i} x y = rw (add-one i) (printed_both x y)
 
-  pub room_for_one_more : {before between : Page} (n i : ℕ) → i < n → Room before (each n f) → Printed before between (each i f) → Room between (f i)
+  -- A turn before n prints part of what n turns print.
+  pub turn_fits : (n i : ℕ) → i < n → length (each i f) + length (f i) ≤ length (each n f)
   unfolding each
-  room_for_one_more n i l room x = record {
-    fits =
-        let d : (k : ℕ) × (n ≡ suc i + k) = below n (suc i) l in
-        let g = each_grows d.0 (suc i) f in
-        let e : length (each n f) ≡ length (each (suc i + d.0) f) = ap (λ z. length (each z f)) d.1 in
-        let a = length-append (each i f) (f i) in
-        let r = room.fits in let s = printed_size x in let t = x.ends in
-        omega arith;
-  }
+  turn_fits n i l =
+      let d : (k : ℕ) × (n ≡ suc i + k) = below n (suc i) l in
+      let g = each_grows d.0 (suc i) f in
+      let e : length (each n f) ≡ length (each (suc i + d.0) f) = ap (λ z. length (each z f)) d.1 in
+      let a = length-append (each i f) (f i) in
+      omega arith
     where
       below : (n j : ℕ) → j ≤ n → (k : ℕ) × (n ≡ j + k)
       below n j h = (n - j, omega arith)
+
+  pub room_for_one_more : {before between : Page} (n i : ℕ) → i < n → Room before (each n f) → Printed before between (each i f) → Room between (f i)
+  room_for_one_more n i l room x = record {
+    fits = let a = turn_fits n i l in let r = room.fits in let s = printed_size x in let t = x.ends in omega arith;
+  }

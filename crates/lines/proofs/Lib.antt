@@ -1,2 +1,3 @@
 pub mod BreaksLaws
+pub mod LineAtLaws
 pub mod LineLaws

@@ -1,1 +1,3 @@
 pub mod DigitTurnLaws
+pub mod DigitsLeftLaws
+pub mod TurnLaws

@@ -5,8 +5,10 @@ use mathlib.Core.List.{List, [], ◌∷◌, ◌++◌, append_assoc}
 use native.Mathlib.Omega.{arith}
 use lib.ListN.{length, drop, set, length-set, length-append}
 use lib.Seq.{set_comm, set-append_seam}
+use Rattle.shape.specs.LineText.{decimal, line_text}
 use Rattle.print.specs.Put.{put}
 use Rattle.shape.proofs.DigitLaws.{last_digits, digits_length}
+use Rattle.shape.proofs.LengthLaws.{one_length, two_length, three_length}
 
 pub put_none : (at : ℕ) (out : List ℕ) → put at [] out ≡ out
 unfolding put
@@ -67,3 +69,42 @@ digits_step at n out (suc k) h =
     rw z (put_append at (last_digits k (n / 10)) ((48 + n % 10) ∷ []) out
     ∙ ap (λ (j : ℕ). set (put at (last_digits k (n / 10)) out) (at + j) (48 + n % 10)) e
     ∙ sym (put_set at (last_digits k (n / 10)) out (at + k) (48 + n % 10) (omega arith)))
+
+-- a line of one, two or three numbers: how long it is, and field by field
+pub one_put : (at c a p : ℕ) (o₀ o₂ : List ℕ) → o₂ ≡ put (at + 1) (32 ∷ decimal a) (set o₀ at c) → p ≡ at + 1 + 1 + length (decimal a)
+    → (set o₂ p 10 ≡ put at (line_text c (a ∷ [])) o₀) × (p + 1 ≡ at + length (line_text c (a ∷ [])))
+one_put at c a p o₀ o₂ e₂ ep =
+    let k : at + 1 + suc (length (decimal a)) ≡ p = omega arith in (
+      sym (put_more at c (32 ∷ decimal a ++ (10 ∷ [])) o₀
+          ∙ put_append (at + 1) (32 ∷ decimal a) (10 ∷ []) (set o₀ at c)
+          ∙ rw (k, ← e₂) (put_more p 10 [] o₂ ∙ put_none (p + 1) (set o₂ p 10))),
+      omega (arith, one_length c a),
+    )
+
+module _ (at c a b p q : ℕ) (o₀ o₂ o₃ : List ℕ) (e₂ : o₂ ≡ put (at + 1) (32 ∷ decimal a) (set o₀ at c)) (ep : p ≡ at + 1 + 1 + length (decimal a))
+    (e₃ : o₃ ≡ put p (32 ∷ decimal b) o₂) (eq : q ≡ p + 1 + length (decimal b)) where
+  put_fields : (l : List ℕ) → put at (c ∷ 32 ∷ decimal a ++ (32 ∷ decimal b ++ l)) o₀ ≡ put q l o₃
+  put_fields l =
+      let k : at + 1 + suc (length (decimal a)) ≡ p = omega arith in
+      let j : p + suc (length (decimal b)) ≡ q = omega arith in
+      put_more at c (32 ∷ decimal a ++ (32 ∷ decimal b ++ l)) o₀
+      ∙ put_append (at + 1) (32 ∷ decimal a) (32 ∷ decimal b ++ l) (set o₀ at c)
+      ∙ rw (k, ← e₂) (put_append p (32 ∷ decimal b) l o₂ ∙ rw (j, ← e₃))
+
+pub two_put : (at c a b p q : ℕ) (o₀ o₂ o₃ : List ℕ) → o₂ ≡ put (at + 1) (32 ∷ decimal a) (set o₀ at c) → p ≡ at + 1 + 1 + length (decimal a)
+    → o₃ ≡ put p (32 ∷ decimal b) o₂ → q ≡ p + 1 + length (decimal b)
+    → (set o₃ q 10 ≡ put at (line_text c (a ∷ b ∷ [])) o₀) × (q + 1 ≡ at + length (line_text c (a ∷ b ∷ [])))
+two_put at c a b p q o₀ o₂ o₃ e₂ ep e₃ eq =
+    (sym (put_fields at c a b p q o₀ o₂ o₃ e₂ ep e₃ eq (10 ∷ []) ∙ put_more q 10 [] o₃ ∙ put_none (q + 1) (set o₃ q 10)), omega (arith, two_length c a b))
+
+pub three_put : (at c a b w p q r : ℕ) (o₀ o₂ o₃ o₄ : List ℕ) → o₂ ≡ put (at + 1) (32 ∷ decimal a) (set o₀ at c) → p ≡ at + 1 + 1 + length (decimal a)
+    → o₃ ≡ put p (32 ∷ decimal b) o₂ → q ≡ p + 1 + length (decimal b)
+    → o₄ ≡ put q (32 ∷ decimal w) o₃ → r ≡ q + 1 + length (decimal w)
+    → (set o₄ r 10 ≡ put at (line_text c (a ∷ b ∷ w ∷ [])) o₀) × (r + 1 ≡ at + length (line_text c (a ∷ b ∷ w ∷ [])))
+three_put at c a b w p q r o₀ o₂ o₃ o₄ e₂ ep e₃ eq e₄ er =
+    let j : q + suc (length (decimal w)) ≡ r = omega arith in (
+      sym (put_fields at c a b p q o₀ o₂ o₃ e₂ ep e₃ eq (32 ∷ decimal w ++ (10 ∷ []))
+          ∙ put_append q (32 ∷ decimal w) (10 ∷ []) o₃
+          ∙ rw (j, ← e₄) (put_more r 10 [] o₄ ∙ put_none (r + 1) (set o₄ r 10))),
+      omega (arith, three_length c a b w),
+    )

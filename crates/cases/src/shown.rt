@@ -24,7 +24,7 @@ pub fn print_answer<W: Write>(to: &mut W, a: Answer) -> io::Result<()> {
 }
 
 pub fn print_bool<W: Write>(to: &mut W, b: bool) -> io::Result<()> {
-    write!(to, "{} ", if b { "yes" } else { "no" })
+    write!(to, "{}", if b { "yes " } else { "no " })
 }
 
 pub fn end_line<W: Write>(to: &mut W) -> io::Result<()> {

@@ -15,6 +15,8 @@ pub extern "C" fn wharftoken_read(text: &[u8], record: &mut [u8]) -> u64
     if !is_accepted(answer) {
         return pack_answer(answer, 0);
     }
-    put_record(&reading.sheet, record);
+    // Taken out only here: a refusal copies no record.
+    let sheet = reading.sheet;
+    put_record(&sheet, record);
     pack_answer(answer, 0)
 }

@@ -47,16 +47,18 @@ fn read_trailed(s: &[u8], last: LastLine, numbers: Numbers) -> Reading
     let u = numbers.second as usize;
     let t = numbers.third as usize;
     if bad_trailer(f, u, t, last.lines) {
-        refused_at(Refusal::BadTrailer, last.lines, 1)
-    } else if Sheet::CATALOGUE < f - 1 {
-        refused_at(Refusal::TooManyLines, 1 + Sheet::CATALOGUE, 1)
-    } else if Sheet::OPTIONS < u - f {
-        refused_at(Refusal::TooManyLines, f + Sheet::OPTIONS, 1)
-    } else if Sheet::ORDERINGS < t - u {
-        refused_at(Refusal::TooManyLines, u + Sheet::ORDERINGS, 1)
-    } else {
-        read_body(s, last.start, f, u, t)
+        return refused_at(Refusal::BadTrailer, last.lines, 1);
     }
+    if Sheet::CATALOGUE < f - 1 {
+        return refused_at(Refusal::TooManyLines, 1 + Sheet::CATALOGUE, 1);
+    }
+    if Sheet::OPTIONS < u - f {
+        return refused_at(Refusal::TooManyLines, f + Sheet::OPTIONS, 1);
+    }
+    if Sheet::ORDERINGS < t - u {
+        return refused_at(Refusal::TooManyLines, u + Sheet::ORDERINGS, 1);
+    }
+    read_body(s, last.start, f, u, t)
 }
 
 // Reads a sheet: its record, or the first refusal with an all-zero record.
@@ -70,8 +72,7 @@ pub fn read(text: &[u8]) -> Reading
     let last = last_line(text);
     let line = &text[last.start..];
     if is_trailer(line) {
-        read_trailed(text, last, numbers_of(line))
-    } else {
-        refused_at(Refusal::NoTrailer, 0, 0)
+        return read_trailed(text, last, numbers_of(line));
     }
+    refused_at(Refusal::NoTrailer, 0, 0)
 }

@@ -9,7 +9,8 @@ use Rattle.rows.proofs.ones.OnesIterator.next.Goals as goal
 
 pub returns-then-self-eq0-clause-steps : goal.returns-then-self-eq0-clause-steps
 returns-then-self-eq0-clause-steps c =
-    let e : slots c.args.self.now.0 ≡ [] = rw c.if-self-eq0.true (slots_none 32 0) in
+    let none : c.args.self.now.0 ≡ 0 = omega (arith, c.if-self-eq0.true) in
+    let e : slots c.args.self.now.0 ≡ [] = rw none (slots_none 32 0) in
     ((e, e), λ x h. cc)
 
 pub returns-clause-steps : goal.returns-clause-steps

@@ -1,5 +1,7 @@
 // Chains charged one after another.
 ghost use Rattle.std.specs.Prelude.{◌+◌, ◌≤◌};
+ghost use Rattle.chart.specs.Chart.{by_slot};
+ghost use Rattle.residual.specs.Left.{rest};
 ghost use Rattle.half.specs.Weights.{largest_sum};
 ghost use Rattle.bound.specs.Bound.{ChargesMore, KeepsCharged, BoundedAs};
 
@@ -28,7 +30,7 @@ fn charge_one(
     left: &mut Left,
 ) -> u32
     requires { most ≤ 60 }
-    ensures { ChargesMore chart.now known.now result left.old left.new }
+    ensures { ChargesMore (by_slot chart.now) known.now result (rest left.old) (rest left.new) }
 {
     let Some(chain) = find(chart, known, after, hints, &left.orderings, x, most) else {
         return 0;
@@ -48,7 +50,7 @@ fn charge_items(
     hints: &mut Hints,
 )
     requires { (most ≤ 60) × (round.enough ≤ largest_sum + 1) × (hints.old.charged ≤ 10551136) }
-    ensures { KeepsCharged chart.now known.now hints.old.charged hints.new.charged left.old left.new }
+    ensures { KeepsCharged (by_slot chart.now) known.now hints.old.charged hints.new.charged (rest left.old) (rest left.new) }
 {
     let mut x: usize = 0;
     for _ in 0..192 {
@@ -73,7 +75,7 @@ fn charge_rounds(
     left: &mut Left,
 ) -> u32
     requires { round.enough ≤ largest_sum + 1 }
-    ensures { KeepsCharged chart.now known.now 0 result left.old left.new }
+    ensures { KeepsCharged (by_slot chart.now) known.now 0 result (rest left.old) (rest left.new) }
 {
     let mut hints = hints_of(chart, round.options, round.orderings, left, 0);
     charge_items(chart, known, after, round, 2, left, &mut hints);
@@ -99,7 +101,7 @@ pub fn bound(
     enough: u32,
 ) -> Charged
     requires { enough ≤ largest_sum + 1 }
-    ensures { BoundedAs chart.now known.now open_options open_orderings result }
+    ensures { BoundedAs (by_slot chart.now) known.now open_options open_orderings result }
 {
     let mut left = start(chart, open_options, open_orderings);
     let mut charged: u32 = 0;

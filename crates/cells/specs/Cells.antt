@@ -6,7 +6,7 @@ use Rattle.rows.specs.Bits.{has}
 use Rattle.chart.specs.Arrays.{weight_in}
 use Rattle.half.specs.Half.{clashes_in, weight_of_sets}
 use Rattle.cells.specs.declared.cells.Limit.{Limit}
-use Rattle.chart.specs.declared.chart.Chart.{Chart}
+use Rattle.chart.specs.Chart.{BySlot}
 use Rattle.half.specs.declared.opened.Half.{Half}
 
 -- The limits of the rules, in the code's own words.
@@ -17,10 +17,10 @@ abbrev pub no_limit : Limit
 no_limit = record { kept_lower = 0; kept_upper = 0; dropped_lower = 0; dropped_upper = 0 }
 
 -- Ordering u is of a set, and touches an option of a set.
-abbrev pub touches_in : Chart → ℕ → ℕ → ℕ → Bool
+abbrev pub touches_in : BySlot → ℕ → ℕ → ℕ → Bool
 touches_in chart orderings options u = has orderings u && (has options (get_or chart.firsts u 0) || has options (get_or chart.seconds u 0))
 
-module _ (chart : Chart) (h : Half) where
+module _ (chart : BySlot) (h : Half) where
   abbrev firsts : List ℕ
   firsts = chart.firsts
 

@@ -1,5 +1,6 @@
 // The limits of one item.
 ghost use Rattle.std.specs.Prelude.{◌≡◌, ◌&&◌, ◌||◌, ◌≤◌, ◌<◌, get_or};
+ghost use Rattle.chart.specs.Chart.{by_slot};
 ghost use Rattle.rows.specs.Bits.{has};
 ghost use Rattle.rows.specs.Sets.{Holds};
 ghost use Rattle.half.specs.Weights.{largest_sum};
@@ -24,23 +25,29 @@ pub fn clash_row(t: &[u32; 32], i: usize, n: usize) -> u32
     requires { (n ≤ 32) × (i < 32) }
     ensures { Holds result n (clashes_in t.now i) }
 {
-    rows::set_where(n, |j| i != j && t[i].get(j) && t[j].get(i))
+    // Both rows are read before any test, so that the compiler leaves out the branch.
+    rows::set_where(n, |j| {
+        let after = t[i].get(j);
+        let before = t[j].get(i);
+        i != j && after && before
+    })
 }
 
 // The orderings of a set that touch an option of a set.
 pub fn touching(chart: &Chart, orderings: u64, options: u32) -> u64
-    ensures { Holds result chart.now.ordering_count (touches_in chart.now orderings options) }
+    ensures { Holds result chart.now.ordering_count (touches_in (by_slot chart.now) orderings options) }
 {
     rows::set_where(chart.ordering_count, |u| {
         let first = usize::from(chart.firsts[u]);
         let second = usize::from(chart.seconds[u]);
-        orderings.get(u) && (options.get(first) || options.get(second))
+        let touches = options.get(first) || options.get(second);
+        orderings.get(u) && touches
     })
 }
 
 // The weight of the open options of a set, and of the open orderings touching one of these.
 pub fn weight_with_orderings(chart: &Chart, h: &Half, set: u32) -> u32
-    ensures { (result ≡ weight_with_orderings_in chart.now h.now (has set)) × (result ≤ largest_sum) }
+    ensures { (result ≡ weight_with_orderings_in (by_slot chart.now) h.now (has set)) × (result ≤ largest_sum) }
 {
     let options = rows::meet(h.open_options, set);
     weigh_both(chart, options, touching(chart, h.open_orderings, options))
@@ -60,8 +67,8 @@ pub fn no_limit() -> Limit
 // The limits of an option; none if it is decided. What an option forgoes is worked out otherwise than what an ordering needs, so the
 // two are no instances of one function.
 pub fn option_limit(chart: &Chart, h: &Half, i: usize) -> Limit
-    requires open_fits { OpenFits chart.now h.now × (i < chart.now.option_count) }
-    ensures { result ≡ option_limit_in chart.now h.now i }
+    requires open_fits { OpenFits (by_slot chart.now) h.now × (i < chart.now.option_count) }
+    ensures { result ≡ option_limit_in (by_slot chart.now) h.now i }
 {
     if !h.open_options.get(i) {
         return no_limit();
@@ -79,8 +86,8 @@ pub fn option_limit(chart: &Chart, h: &Half, i: usize) -> Limit
 
 // The limits of an ordering; none if it is decided.
 pub fn ordering_limit(chart: &Chart, h: &Half, u: usize) -> Limit
-    requires open_fits { OpenFits chart.now h.now × (u < chart.now.ordering_count) }
-    ensures { result ≡ ordering_limit_in chart.now h.now u }
+    requires open_fits { OpenFits (by_slot chart.now) h.now × (u < chart.now.ordering_count) }
+    ensures { result ≡ ordering_limit_in (by_slot chart.now) h.now u }
 {
     if !h.open_orderings.get(u) {
         return no_limit();

@@ -7,7 +7,7 @@ use graph::put_orderings;
 // A sheet's counts, and by slot what the catalogue and the orderings say and what all weighs: row i holds the options that come after
 // option i, and ordering u asks for option firsts[u] before option seconds[u]. The arrays stand side by side, as the record has them and as
 // `EndsAreSlots` and `ShowLines` speak of them.
-#[derive(Drop)]
+#[derive(Clone, Copy)]
 pub struct Chart {
     pub option_count: usize,
     pub ordering_count: usize,

@@ -9,7 +9,7 @@ use Rattle.rows.specs.Bits.{has}
 use Rattle.rows.specs.Sets.{Holds, Table}
 use Rattle.given.specs.Given.{Gives}
 use Rattle.graph.specs.Shown.{counted, Shows}
-use Rattle.chart.specs.declared.chart.Chart.{Chart}
+use Rattle.chart.specs.Chart.{BySlot}
 use Rattle.given.specs.declared.sets.Given.{Given}
 use Rattle.forced.specs.declared.forcing.Forced.{Forced}
 
@@ -31,6 +31,6 @@ pub record ForcedAs (v : Subscription) (b : DecidedBySlot) (r : Forced) : Type 0
   pub contradicts : r.contradiction ≡ contradiction v b
 
 -- Whatever subscription the chart shows, and whatever decisions give these sets.
-abbrev pub ForcedBy : Chart → Given → Forced → Type 0
+abbrev pub ForcedBy : BySlot → Given → Forced → Type 0
 ForcedBy chart g r = let n = chart.option_count in let m = chart.ordering_count in
     (v : Subscription) (b : DecidedBySlot) → Shows v n m chart.firsts chart.seconds chart.rows → Gives b n m g → ForcedAs (counted n m v) b r

@@ -1,4 +1,5 @@
 // Everything that a decision list forces.
+ghost use Rattle.chart.specs.Chart.{by_slot};
 ghost use Rattle.forced.specs.Forced.{ForcedBy};
 
 use crate::parts::{contradicts, dropped_options, dropped_orderings, kept_options};
@@ -17,7 +18,7 @@ pub struct Forced {
 
 // No repetition is needed: kept options follow from what is given, known before from those, dropped options from that, dropped orderings from that.
 pub fn force(chart: &Chart, g: Given) -> Forced
-    ensures { ForcedBy chart.now g result }
+    ensures { ForcedBy (by_slot chart.now) g result }
 {
     let n = chart.option_count;
     let m = chart.ordering_count;

@@ -22,7 +22,7 @@ pub fn kept_options(chart: &Chart, given: u32, kept_orderings: u64) -> u32
     kept
 }
 
-// The dropped options: those given, and those known before themselves. Here and below a row is read before any test, so that the
+// The dropped options: those given, and those known before themselves. Here and in `is_against` a row is read before any test, so that the
 // compiler leaves out the branch.
 pub fn dropped_options(given: u32, t: &[u32; 32], n: usize) -> u32
     requires { n ≤ 32 }

@@ -1,5 +1,6 @@
 // A half-decided sheet after forcing.
 ghost use Rattle.std.specs.Prelude.{◌||◌, not, ◌+◌, ◌≤◌, ◌<◌};
+ghost use Rattle.chart.specs.Chart.{by_slot};
 ghost use Rattle.rows.specs.Bits.{has};
 ghost use Rattle.rows.specs.Sets.{Holds};
 ghost use Rattle.half.specs.Half.{HalfDecidedAs};
@@ -34,7 +35,7 @@ pub fn open_items<S: Slots>(kept: S, dropped: S, n: usize) -> S
 
 // The half-decided sheet that forced decisions leave.
 pub fn half_decided(chart: &Chart, f: &Forced) -> Half
-    ensures { HalfDecidedAs chart.now f.now result }
+    ensures { HalfDecidedAs (by_slot chart.now) f.now result }
 {
     let n = chart.option_count;
     let m = chart.ordering_count;

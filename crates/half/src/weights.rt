@@ -1,5 +1,6 @@
 // Weights of sets of items.
 ghost use Rattle.std.specs.Prelude.{◌≡◌, ◌+◌, ◌*◌, ◌≤◌, ◌<◌, get_or, length};
+ghost use Rattle.chart.specs.Chart.{by_slot};
 ghost use Rattle.rules.specs.Slots.{sum, pick, over};
 ghost use Rattle.rows.specs.Bits.{has};
 ghost use Rattle.half.specs.Half.{weight_of_sets};
@@ -43,7 +44,7 @@ pub fn weigh_all(w: &[u16], n: usize) -> u32
 
 // The weight of a set of options and a set of orderings.
 pub fn weigh_both(chart: &Chart, options: u32, orderings: u64) -> u32
-    ensures { (result ≡ weight_of_sets chart.now (has options) (has orderings)) × (result ≤ largest_sum) }
+    ensures { (result ≡ weight_of_sets (by_slot chart.now) (has options) (has orderings)) × (result ≤ largest_sum) }
 {
     weigh(u64::from(options), &chart.weights, chart.option_count)
         + weigh(orderings, &chart.ordering_weights, chart.ordering_count)

@@ -1,17 +1,16 @@
 -- Open items that are kept beside the forced ones.
 use Rattle.std.specs.Prelude.{◌≡◌, ◌≢◌, List, ◌⊎◌, ℕ, ◌+◌, ◌<◌, T}
-use Rattle.chart.specs.declared.chart.Chart.{Chart}
+use Rattle.chart.specs.Chart.{BySlot}
 use Rattle.rules.specs.laws.search.Residual.{held}
 use Rattle.rows.specs.Bits.{has}
 use Rattle.numbered.specs.Items.{numbered, ends_only}
-use Rattle.residual.specs.Left.{residual_of}
-use Rattle.residual.specs.declared.starting.Left.{Left}
+use Rattle.residual.specs.Left.{Rest, residual_of}
 use Rattle.half.specs.declared.opened.Half.{Half}
 use Rattle.loose.specs.Loose.{EndsOf, LooseBy}
 use Rattle.given.specs.declared.sets.Given.{Given}
 
 -- Item x may be kept: its consequences hold more than can be spared, or it is loose.
-pub data MayKeep (chart : Chart) (known after : List ℕ) (opens begins ends : ℕ) (left : Left) (spare x : ℕ) : Type 0 where
+pub data MayKeep (chart : BySlot) (known after : List ℕ) (opens begins ends : ℕ) (left : Rest) (spare x : ℕ) : Type 0 where
   needed : spare < held (ends_only chart.option_count chart.ordering_count chart.firsts chart.seconds) (residual_of left) (numbered x) → MayKeep chart known after opens begins ends left spare x
   loose : LooseBy known after chart.firsts chart.seconds chart.option_count opens begins ends x → MayKeep chart known after opens begins ends left spare x
 
@@ -22,7 +21,7 @@ pub record AddedTo (before after opens n : ℕ) (P : ℕ → Type 0) : Type 0 wh
   pub one : after ≢ before → (j : ℕ) × (j < n) × T (has opens j) × T (has after j)
 
 -- Items that may be kept are kept too, at least one; nothing else moves.
-pub record KeptMore (chart : Chart) (h : Half) (after : List ℕ) (left : Left) (spare : ℕ) (g k : Given) : Type 0 where
+pub record KeptMore (chart : BySlot) (h : Half) (after : List ℕ) (left : Rest) (spare : ℕ) (g k : Given) : Type 0 where
   pub begins : ℕ
   pub ends : ℕ
   pub begin : EndsOf h.open_orderings chart.firsts chart.ordering_count begins

@@ -1,6 +1,6 @@
 -- A decision list as sets of kept and dropped items, and one item more decided in it.
 use Rattle.std.specs.Prelude.{◌≡◌, Bool, false, cond, List, ◌++◌, ℕ, ◌+◌, ◌-◌, ◌≤◌, ◌<◌, T, ltb}
-use Rattle.chart.specs.declared.chart.Chart.{Chart}
+use Rattle.chart.specs.Chart.{BySlot}
 use Rattle.rules.specs.Slots.{list_of}
 use Rattle.rules.specs.Decisions.{Decision}
 use Rattle.rules.specs.Forced.{decision_of}
@@ -9,7 +9,7 @@ use Rattle.given.specs.declared.sets.Given.{Given}
 use Rattle.forced.specs.declared.forcing.Forced.{Forced}
 
 -- The decision list that sets of kept and dropped items show.
-unfoldable pub decisions_of : Chart → Given → List Decision
+unfoldable pub decisions_of : BySlot → Given → List Decision
 decisions_of chart g = list_of chart.option_count (λ i. decision_of (has g.kept i) (has g.dropped i)) ++ list_of chart.ordering_count (λ u. decision_of (has g.kept_orderings u) (has g.dropped_orderings u))
 
 -- The choice that keeps the options of one set and the orderings of another.
@@ -17,7 +17,7 @@ unfoldable pub chosen_list : (n m kept kept_orderings : ℕ) → List Bool
 chosen_list n m kept kept_orderings = list_of n (has kept) ++ list_of m (has kept_orderings)
 
 -- No item is both kept and dropped, and only the sheet's own items are decided.
-pub record Apart (chart : Chart) (g : Given) : Type 0 where
+pub record Apart (chart : BySlot) (g : Given) : Type 0 where
   pub options : (i : ℕ) → T (has g.kept i) → T (has g.dropped i) → ⊥
   pub orderings : (u : ℕ) → T (has g.kept_orderings u) → T (has g.dropped_orderings u) → ⊥
   pub kept : (i : ℕ) → T (has g.kept i) → i < chart.option_count
@@ -30,7 +30,7 @@ sets_of f = record { kept = f.kept; dropped = f.dropped; kept_orderings = f.kept
 
 -- ---- an item by its number: option i is i, ordering u is 32 + u
 -- Item x is on the sheet, and open.
-pub record OpenItem (chart : Chart) (g : Given) (x : ℕ) : Type 0 where
+pub record OpenItem (chart : BySlot) (g : Given) (x : ℕ) : Type 0 where
   pub option : x < 32 → (x < chart.option_count) × (has g.kept x ≡ false) × (has g.dropped x ≡ false)
   pub ordering : 32 ≤ x → (x - 32 < chart.ordering_count) × (has g.kept_orderings (x - 32) ≡ false) × (has g.dropped_orderings (x - 32) ≡ false)
 

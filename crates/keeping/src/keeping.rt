@@ -1,5 +1,7 @@
 // Open items that are kept beside the forced ones: without one of them less than what is wanted is left, or it is loose.
 ghost use Rattle.std.specs.Prelude.{◌≤◌, ◌<◌, ℕ, true, IfSome};
+ghost use Rattle.chart.specs.Chart.{by_slot};
+ghost use Rattle.residual.specs.Left.{rest};
 ghost use Rattle.numbered.specs.Items.{Named};
 ghost use Rattle.links.specs.Links.{OnlyIf};
 ghost use Rattle.keeping.specs.Keeping.{MayKeep, AddedTo, KeptMore};
@@ -31,7 +33,7 @@ fn may_keep(
     x: u8,
 ) -> bool
     requires { Named chart.now.option_count chart.now.ordering_count x }
-    ensures { OnlyIf result (MayKeep chart.now known.now after.now o.options o.begins o.ends left.now o.spare x) }
+    ensures { OnlyIf result (MayKeep (by_slot chart.now) known.now after.now o.options o.begins o.ends (rest left.now) o.spare x) }
 {
     let held = held_by(chart, left, x);
     o.spare < held || is_loose(chart, known, after, o.options, o.begins, o.ends, x)
@@ -61,7 +63,7 @@ pub fn keep_more(
     left: &Left,
     spare: u32,
 ) -> Option<Given>
-    ensures { IfSome result (KeptMore chart.now h.now after.now left.now spare g) }
+    ensures { IfSome result (KeptMore (by_slot chart.now) h.now after.now (rest left.now) spare g) }
 {
     let n = chart.option_count;
     let m = chart.ordering_count;

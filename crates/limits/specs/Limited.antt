@@ -11,7 +11,7 @@ use Rattle.rules.specs.Results.{option_limit, ordering_limit}
 use Rattle.chart.specs.Arrays.{Weighs}
 use Rattle.cells.specs.Cells.{no_limit, shown_limit}
 use Rattle.given.specs.Filled.{filled}
-use Rattle.chart.specs.declared.chart.Chart.{Chart}
+use Rattle.chart.specs.Chart.{BySlot}
 use Rattle.given.specs.declared.sets.Given.{Given}
 use Rattle.limits.specs.declared.whole.Limited.{Limited}
 
@@ -47,6 +47,6 @@ unfoldable pub limited_as : Subscription → DecidedBySlot → Limited
 limited_as v b = cond (contradiction v b) contradictory (without_contradiction v b)
 
 -- Whatever subscription the chart shows, and whatever decisions give these sets.
-abbrev pub LimitedBy : Chart → Given → Limited → Type 0
+abbrev pub LimitedBy : BySlot → Given → Limited → Type 0
 LimitedBy chart g r = let n = chart.option_count in let m = chart.ordering_count in
     (v : Subscription) (b : DecidedBySlot) → Shows v n m chart.firsts chart.seconds chart.rows → Weighs v n m chart.weights chart.ordering_weights → Gives b n m g → r ≡ limited_as (counted n m v) b

@@ -1,5 +1,6 @@
 // The whole answer about a half-decided sheet.
 ghost use Rattle.std.specs.Prelude.{◌≡◌, ◌<◌, ◌≤◌, ℕ, get_or, length};
+ghost use Rattle.chart.specs.Chart.{by_slot};
 ghost use Rattle.half.specs.Half.{OpenFits};
 ghost use Rattle.cells.specs.Cells.{no_limit, option_limit_in, ordering_limit_in};
 ghost use Rattle.given.specs.Filled.{filled};
@@ -54,22 +55,22 @@ fn each_limit<const N: usize, F: Fn(usize) -> Limit>(n: usize, limit: F) -> [Lim
 }
 
 pub fn option_limits(chart: &Chart, h: &Half) -> [Limit; 32]
-    requires { OpenFits chart.now h.now }
-    ensures { result ≡ filled 32 chart.now.option_count (option_limit_in chart.now h.now) no_limit }
+    requires { OpenFits (by_slot chart.now) h.now }
+    ensures { result ≡ filled 32 chart.now.option_count (option_limit_in (by_slot chart.now) h.now) no_limit }
 {
     each_limit(chart.option_count, |i| option_limit(chart, h, i))
 }
 
 pub fn ordering_limits(chart: &Chart, h: &Half) -> [Limit; 64]
-    requires { OpenFits chart.now h.now }
-    ensures { result ≡ filled 64 chart.now.ordering_count (ordering_limit_in chart.now h.now) no_limit }
+    requires { OpenFits (by_slot chart.now) h.now }
+    ensures { result ≡ filled 64 chart.now.ordering_count (ordering_limit_in (by_slot chart.now) h.now) no_limit }
 {
     each_limit(chart.ordering_count, |u| ordering_limit(chart, h, u))
 }
 
 // Forced decisions and limits, from what is given.
 pub fn limits_of(chart: &Chart, g: Given) -> Limited
-    ensures { LimitedBy chart.now g result }
+    ensures { LimitedBy (by_slot chart.now) g result }
 {
     let f = forced::force(chart, g);
     if f.contradiction {

@@ -6,6 +6,6 @@ mod starting;
 mod taking;
 mod taking_all;
 
-pub use starting::{Left, start};
+pub use starting::{Left, start, weights_of};
 pub use taking::held_by;
 pub use taking_all::take_all;

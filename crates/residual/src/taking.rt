@@ -1,8 +1,9 @@
 // What an item's consequences hold of what is left, and taking from it. Items are numbers, as take_all has them: see docs/DECISIONS.md.
 ghost use Rattle.std.specs.Prelude.{◌≡◌, ◌≤◌, ◌<◌, length};
+ghost use Rattle.chart.specs.Chart.{by_slot};
 ghost use Rattle.graph.specs.Graph.{EndsAreSlots};
 ghost use Rattle.numbered.specs.Items.{Named};
-ghost use Rattle.residual.specs.Left.{held_of};
+ghost use Rattle.residual.specs.Left.{rest, held_of};
 ghost use Rattle.residual.specs.Taken.{LeftIn, TookAt, TookTo, Took, held_in, touches_in};
 
 use crate::starting::Left;
@@ -87,7 +88,7 @@ pub fn take_at(left: &mut [u32], i: usize, need: u32) -> u32
 #[inline]
 pub fn held_by(chart: &Chart, left: &Left, x: u8) -> u32
     requires { Named chart.now.option_count chart.now.ordering_count x }
-    ensures { (result ≡ held_of chart.now left.now x) × (result ≤ 4259775) }
+    ensures { (result ≡ held_of (by_slot chart.now) (rest left.now) x) × (result ≤ 4259775) }
 {
     let ends = Ends {
         first: &chart.firsts,

@@ -1,6 +1,5 @@
 -- What the search returns.
 use Rattle.std.specs.Prelude.{◌≡◌, Bool, true, false, ℕ, ◌+◌, ◌≤◌, ◌<◌, get_or}
-use Rattle.chart.specs.declared.chart.Chart.{Chart}
 use Rattle.rules.specs.Lines.{Lines}
 use Rattle.rules.specs.Decisions.{Decision, Kept, Dropped}
 use Rattle.rules.specs.Best as R
@@ -16,7 +15,7 @@ use Rattle.sheet.specs.declared.answer.Refusal.{Refusal}
 use Rattle.sheet.specs.declared.answer.Refusal.TheVariants.{NotRecorded, ToleranceTooLarge}
 use Rattle.sheet.specs.declared.answer.Answer.TheVariants.{Accepted, Refused}
 use Rattle.sheet.specs.declared.sheet.Sheet.{Sheet}
-use Rattle.chart.specs.Chart.{ShowsSheet}
+use Rattle.chart.specs.Chart.{BySlot, ShowsSheet}
 use Rattle.keeping.specs.Sets.{chosen_list}
 use Rattle.search.specs.declared.found.Found.{Found}
 use Rattle.search.specs.declared.sheet_search.Searched.{Searched}
@@ -68,5 +67,5 @@ abbrev pub answer_in : (n m : ℕ) → Found → R.Answer
 answer_in n m r = record { relaxation = chosen_list n m r.kept.options r.kept.orderings; value = r.value; ceiling = r.ceiling }
 
 -- Whatever sheet the chart shows.
-abbrev pub FoundBy : (chart : Chart) (tolerance : ℕ) → Found → Type 0
+abbrev pub FoundBy : (chart : BySlot) (tolerance : ℕ) → Found → Type 0
 FoundBy chart tolerance r = (s : Lines) → ShowsSheet s chart → AnswerTo s tolerance (answer_in chart.option_count chart.ordering_count r)

@@ -1,5 +1,6 @@
 // What a whole search comes to.
 ghost use Rattle.std.specs.Prelude.{◌≤◌};
+ghost use Rattle.chart.specs.Chart.{by_slot};
 ghost use Rattle.sheet.specs.Limits.{largest_value};
 ghost use Rattle.search.specs.Search.{FoundBy};
 
@@ -20,7 +21,7 @@ pub struct Found {
 // The search from nothing decided. The ceiling is the lesser of the one over all and the value with the tolerance.
 pub fn found_in(chart: &Chart, tolerance: u32) -> Found
     requires { tolerance ≤ largest_value }
-    ensures { FoundBy chart.now tolerance result }
+    ensures { FoundBy (by_slot chart.now) tolerance result }
 {
     let bounds = bounds_of(chart, tolerance);
     let g = nothing_given();

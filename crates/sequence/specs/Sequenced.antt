@@ -8,7 +8,7 @@ use Rattle.rules.specs.Results.{placed, acyclic, lacks_an_option}
 use Rattle.rules.specs.Sequence.{precedes, kept_slots}
 use Rattle.rules.specs.Relaxation.{KeptBySlot}
 use Rattle.sequence.specs.Padded.{places_of}
-use Rattle.chart.specs.declared.chart.Chart.{Chart}
+use Rattle.chart.specs.Chart.{BySlot}
 use Rattle.given.specs.declared.sets.Given.{Given}
 use Rattle.sheet.specs.declared.count.Number.{Number}
 
@@ -29,6 +29,6 @@ pub record Keeps (c : KeptBySlot) (n m : ℕ) (g : Given) : Type 0 where
   pub ordering : Holds g.kept_orderings m c.ordering
 
 -- Whatever subscription the chart shows with these numbers, and whatever choice the sets are.
-abbrev pub PlacedBy : Chart → (numbers : List ℕ) → Given → Option (List Number) → Type 0
+abbrev pub PlacedBy : BySlot → (numbers : List ℕ) → Given → Option (List Number) → Type 0
 PlacedBy chart numbers g r = let n = chart.option_count in let m = chart.ordering_count in
     (v : Subscription) (c : KeptBySlot) → Shows v n m chart.firsts chart.seconds chart.rows → ((i : ℕ) → i < n → v.number i ≡ get_or numbers i 0) → Keeps c n m g → r ≡ placed_as (counted n m v) c

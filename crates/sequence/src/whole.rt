@@ -1,5 +1,6 @@
 // The sequence of a full decision, from what is given.
 ghost use Rattle.std.specs.Prelude.{◌≡◌};
+ghost use Rattle.chart.specs.Chart.{by_slot};
 ghost use Rattle.sequence.specs.Sequenced.{PlacedBy};
 
 use crate::edges::{between_kept, has_cycle, lacks_option};
@@ -10,7 +11,7 @@ use sheet::Number;
 
 // The sequence, if the decision is a consistent relaxation.
 pub fn sequence_of(chart: &Chart, numbers: &[u8; 32], g: Given) -> Option<[Number; 32]>
-    ensures { PlacedBy chart.now numbers.now g result }
+    ensures { PlacedBy (by_slot chart.now) numbers.now g result }
 {
     let n = chart.option_count;
     let between = between_kept(&chart.rows, g.kept, n);

@@ -1,5 +1,6 @@
 // Settling a half-decided sheet towards a value that is wanted.
 ghost use Rattle.std.specs.Prelude.{◌≡◌, ◌+◌, ◌≤◌};
+ghost use Rattle.chart.specs.Chart.{by_slot};
 ghost use Rattle.sheet.specs.Limits.{largest_value};
 ghost use Rattle.half.specs.Weights.{largest_sum};
 ghost use Rattle.keeping.specs.Sets.{Apart, sets_of};
@@ -70,7 +71,7 @@ fn left_with(given: Given, h: &Half) -> Settled
 // After forcing: an end where even the upper limit, less what is charged, is below what is wanted; otherwise items that may be kept besides.
 fn after_forcing(chart: &Chart, f: &Forced, h: &Half, want: u32) -> Step
     requires { (want ≤ h.now.upper) × (h.now.upper ≤ largest_sum) }
-    ensures { AfterForcing chart.now want f.now h.now result }
+    ensures { AfterForcing (by_slot chart.now) want f.now h.now result }
 {
     let g = sets_of(f);
     let after = transposed(&h.known, chart.option_count);
@@ -88,8 +89,8 @@ fn after_forcing(chart: &Chart, f: &Forced, h: &Half, want: u32) -> Step
 
 // One round: forced decisions, and an end where even their upper limit is below what is wanted.
 fn one_round(chart: &Chart, g: Given, want: u32) -> Step
-    requires { Apart chart.now g }
-    ensures { StepAs chart.now want g result }
+    requires { Apart (by_slot chart.now) g }
+    ensures { StepAs (by_slot chart.now) want g result }
 {
     let f = forced::force(chart, g);
     if f.contradiction {
@@ -107,8 +108,8 @@ fn one_round(chart: &Chart, g: Given, want: u32) -> Step
 
 // Round after round, until nothing more is kept. None: nothing here is worth what is wanted.
 pub fn settle(chart: &Chart, g: Given, want: u32) -> Option<Settled>
-    requires { Apart chart.now g × (want ≤ largest_sum + 1 + largest_value) }
-    ensures { SettledAs chart.now want g result }
+    requires { Apart (by_slot chart.now) g × (want ≤ largest_sum + 1 + largest_value) }
+    ensures { SettledAs (by_slot chart.now) want g result }
 {
     match one_round(chart, g, want) {
         Step::Over => None,

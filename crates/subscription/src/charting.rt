@@ -1,5 +1,6 @@
 // What is worked out once for a sheet: its catalogue's rows and its orderings by slot.
 ghost use Rattle.std.specs.Prelude.{◌≡◌, true};
+ghost use Rattle.chart.specs.Chart.{by_slot};
 ghost use Rattle.sheet.specs.IsRecorded.{is_recorded};
 ghost use Rattle.subscription.specs.Charted.{Charted};
 
@@ -9,7 +10,7 @@ use sheet::Sheet;
 // The chart of a record that an accepted sheet gives.
 pub fn chart_of(s: &Sheet) -> Chart
     requires { is_recorded s.now ≡ true }
-    ensures { Charted s.now result }
+    ensures { Charted s.now (by_slot result) }
 {
     let option_count = s.option_count;
     let ordering_count = s.ordering_count;

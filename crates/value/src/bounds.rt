@@ -1,4 +1,5 @@
 // What a search starts from.
+ghost use Rattle.chart.specs.Chart.{by_slot};
 ghost use Rattle.value.specs.Value.{Reached, Above, BoundsAs};
 
 use crate::value::{best_value, dive};
@@ -15,7 +16,7 @@ pub struct Bounds {
 
 // The best value of the sheet: from a first value on.
 pub fn best_of_all(chart: &Chart) -> u32
-    ensures { Reached chart.now result × Above chart.now result }
+    ensures { Reached (by_slot chart.now) result × Above (by_slot chart.now) result }
 {
     let g = nothing_given();
     let floor = dive(chart, g);
@@ -25,7 +26,7 @@ pub fn best_of_all(chart: &Chart) -> u32
 
 // The upper limit of the whole sheet.
 pub fn whole_limit(chart: &Chart) -> u32
-    ensures { Above chart.now result }
+    ensures { Above (by_slot chart.now) result }
 {
     let g = nothing_given();
     let f = forced::force(chart, g);
@@ -35,7 +36,7 @@ pub fn whole_limit(chart: &Chart) -> u32
 
 // Without a tolerance the value comes first: the search then looks only for what reaches it. With one, a single search from nothing is enough.
 pub fn bounds_of(chart: &Chart, tolerance: u32) -> Bounds
-    ensures { BoundsAs chart.now tolerance result }
+    ensures { BoundsAs (by_slot chart.now) tolerance result }
 {
     if tolerance == 0 {
         let best = best_of_all(chart);

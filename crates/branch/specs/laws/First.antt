@@ -1,6 +1,6 @@
 -- One slot more that is not in the set; the first open item of two sets; no open item stands before it in the list of decisions.
 use Rattle.std.specs.Prelude.{◌≡◌, true, false, ◌⊎◌, ℕ, suc, ◌+◌, ◌-◌, ◌≤◌, ◌<◌, get_or, T, Some, None}
-use Rattle.chart.specs.declared.chart.Chart.{Chart}
+use Rattle.chart.specs.Chart.{BySlot}
 use Rattle.std.proofs.Common.{sym, subst, ◌∙◌, inl, inr, eq-or-lt_of_le, le_of_suc-le-suc, arith}
 use Rattle.rules.specs.Decisions.{Open, is_open}
 use Rattle.rows.specs.Bits.{has}
@@ -48,7 +48,7 @@ module _ {options orderings n m : ℕ} where
   nothing_is_open f g = record { picked = record { below = tt; option = tt; ordering = tt; no_option = f.none; no_ordering = g.none }; none_before = tt; no_option = tt; no_ordering_before = tt }
 
 -- ---- the first item in slot order
-module _ {chart : Chart} {want : ℕ} {g : Given} (x : Settled) (left : LeftOf chart want g x)
+module _ {chart : BySlot} {want : ℕ} {g : Given} (x : Settled) (left : LeftOf chart want g x)
     (i : ℕ) (first : FirstItem x.open_options x.open_orderings chart.option_count chart.ordering_count (Some i)) where
   abbrev n : ℕ
   n = chart.option_count

@@ -1,6 +1,5 @@
 -- Each way out of the recursive branch keeps its promise.
 use Rattle.std.specs.Prelude.{◌≡◌, refl, Bool, true, false, cond, List, ℕ, suc, ◌+◌, ◌≤◌, ◌<◌, set, T, ltb, is_some, Some, None}
-use Rattle.chart.specs.declared.chart.Chart.{Chart}
 use Rattle.std.proofs.Common.{sym, ap, ◌∙◌, arith, ltb-true, ltb-false}
 use Rattle.std.proofs.Math.Path.{subst}
 use Rattle.std.proofs.Math.Option.{some}
@@ -16,7 +15,7 @@ use Rattle.rules.specs.laws.search.Reduces.{reduces_weaker}
 use Rattle.rules.proofs.laws.search.Reduces.{finds_reduced}
 use Rattle.half.specs.Weights.{largest_sum}
 use Rattle.given.specs.declared.sets.Given.{Given}
-use Rattle.chart.specs.Chart.{ShowsSheet}
+use Rattle.chart.specs.Chart.{BySlot, ShowsSheet}
 use Rattle.keeping.specs.Sets.{decisions_of, chosen_list, place, with_item_kept, with_item_dropped}
 use Rattle.settle.specs.Settled.{LeftOf, NothingWorth}
 use Rattle.keeping.specs.laws.Shown.{kept_shown, item_kept_shown, item_dropped_shown, place_below}
@@ -30,7 +29,7 @@ use Rattle.branch.specs.Shown.{shown}
 use Rattle.branch.specs.Branch.{Branched}
 use Rattle.branch.specs.laws.First.{first_in_the_list}
 
-module _ (chart : Chart) (tolerance ceiling : ℕ) (g : Given) (a : SoFar) (small : a.goal ≤ largest_sum + 1) (want : ℕ) (ew : want ≡ wanted a tolerance) where
+module _ (chart : BySlot) (tolerance ceiling : ℕ) (g : Given) (a : SoFar) (small : a.goal ≤ largest_sum + 1) (want : ℕ) (ew : want ≡ wanted a tolerance) where
   abbrev n : ℕ
   n = chart.option_count
 

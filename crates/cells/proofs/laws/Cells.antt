@@ -14,9 +14,10 @@ use Rattle.cells.specs.Cells.{no_limit, touches_in, open_option_in, open_orderin
 use Rattle.half.specs.laws.Weights.{over_same_tests}
 use Rattle.cells.proofs.laws.Charges.{same_weight_with_orderings}
 use Rattle.half.specs.declared.opened.Half.{Half}
-use Rattle.chart.specs.declared.chart.Chart.{Chart}
+use Rattle.graph.specs.Graph.{EndsAreSlots}
+use Rattle.chart.specs.Chart.{BySlot}
 
-module _ (chart : Chart) (h : Half) where
+module _ (chart : BySlot) (h : Half) where
   abbrev n : ℕ
   n = chart.option_count
 
@@ -49,33 +50,33 @@ module _ (chart : Chart) (h : Half) where
   one_slot : (i j : ℕ) → has (with 0 i) j ≡ eqb i j
   one_slot i j = has_with_slot 0 i j ∙ rw (has_none j) refl
 
-  pub open_option_limit : (i : ℕ) {clash own a b : ℕ} → has h.open_options i ≡ true → Holds clash n (clashes_in h.known i) → own ≡ with 0 i
+  pub open_option_limit : EndsAreSlots n m firsts seconds → (i : ℕ) {clash own a b : ℕ} → has h.open_options i ≡ true → Holds clash n (clashes_in h.known i) → own ≡ with 0 i
       → a ≡ weight_with_orderings_in chart h (has clash) → b ≡ weight_with_orderings_in chart h (has own)
       → record { kept_lower = h.lower + weight_in ws i; kept_upper = h.upper - a; dropped_lower = h.lower; dropped_upper = h.upper - b } ≡ option_limit_in chart h i
   unfolding option_limit_in
-  open_option_limit i {clash} {own} {a} {b} t rc eo ea eb = rw (
+  open_option_limit e i {clash} {own} {a} {b} t rc eo ea eb = rw (
     t,
     ea,
-    same_weight_with_orderings chart h (has clash) (clashes_in h.known i) (holds_at rc),
+    same_weight_with_orderings chart h e (has clash) (clashes_in h.known i) (holds_at rc),
     eb,
-    same_weight_with_orderings chart h (has own) (eqb i) (λ j _. rw eo (one_slot i j)),
+    same_weight_with_orderings chart h e (has own) (eqb i) (λ j _. rw eo (one_slot i j)),
   ) refl
 
   pub decided_option_limit : (i : ℕ) → has h.open_options i ≡ false → no_limit ≡ option_limit_in chart h i
   unfolding option_limit_in
   decided_option_limit i t = rw t refl
 
-  pub open_ordering_limit : (u : ℕ) {first second before after clash one two ends needed a : ℕ} → has h.open_orderings u ≡ true
+  pub open_ordering_limit : EndsAreSlots n m firsts seconds → (u : ℕ) {first second before after clash one two ends needed a : ℕ} → has h.open_orderings u ≡ true
       → first ≡ get_or firsts u 0 → second ≡ get_or seconds u 0
       → Holds before n (clashes_in h.known first) → Holds after n (clashes_in h.known second) → clash ≡ joined before after
       → a ≡ weight_with_orderings_in chart h (has clash)
       → one ≡ with 0 first → two ≡ with one second → ends ≡ met h.open_options two → needed ≡ over n (weight_in ws) (has ends)
       → record { kept_lower = h.lower + weight_in bs u + needed; kept_upper = h.upper - a; dropped_lower = h.lower; dropped_upper = h.upper - weight_in bs u } ≡ ordering_limit_in chart h u
   unfolding ordering_limit_in
-  open_ordering_limit u {first} {second} {before} {after} {clash} {one} {two} {ends} {needed} {a} t ef es rb ra ec ea e1 e2 en ew = rw (
+  open_ordering_limit e u {first} {second} {before} {after} {clash} {one} {two} {ends} {needed} {a} t ef es rb ra ec ea e1 e2 en ew = rw (
     t,
     ea,
-    same_weight_with_orderings chart h (has clash) (λ j. clashes_in h.known (get_or firsts u 0) j || clashes_in h.known (get_or seconds u 0) j)
+    same_weight_with_orderings chart h e (has clash) (λ j. clashes_in h.known (get_or firsts u 0) j || clashes_in h.known (get_or seconds u 0) j)
         (λ j l. rw (ec, has_joined before after j, holds_at rb j l, holds_at ra j l, ef, es) refl),
     ew,
     over_same_tests n (weight_in ws) (has ends) (λ j. has h.open_options j && (eqb (get_or firsts u 0) j || eqb (get_or seconds u 0) j))

@@ -11,9 +11,10 @@ use Rattle.half.specs.Half.{OpenFits}
 use Rattle.cells.specs.Cells.{open_option_in, open_ordering_in, weight_with_orderings_in}
 use Rattle.half.specs.laws.Weights.{over_same_tests, over_mono}
 use Rattle.half.specs.declared.opened.Half.{Half}
-use Rattle.chart.specs.declared.chart.Chart.{Chart}
+use Rattle.graph.specs.Graph.{EndsAreSlots}
+use Rattle.chart.specs.Chart.{BySlot}
 
-module _ (chart : Chart) (h : Half) where
+module _ (chart : BySlot) (h : Half) where
   abbrev n : ℕ
   n = chart.option_count
 
@@ -32,11 +33,11 @@ module _ (chart : Chart) (h : Half) where
   abbrev bs : List ℕ
   bs = chart.ordering_weights
 
-  pub same_weight_with_orderings : (p q : ℕ → Bool) → ((j : ℕ) → j < n → p j ≡ q j) → weight_with_orderings_in chart h p ≡ weight_with_orderings_in chart h q
+  pub same_weight_with_orderings : EndsAreSlots n m firsts seconds → (p q : ℕ → Bool) → ((j : ℕ) → j < n → p j ≡ q j) → weight_with_orderings_in chart h p ≡ weight_with_orderings_in chart h q
   unfolding weight_with_orderings_in
-  same_weight_with_orderings p q k = rw (
+  same_weight_with_orderings e p q k = rw (
     over_same_tests n (weight_in ws) (open_option_in chart h p) (open_option_in chart h q) (λ j l. rw (k j l) refl),
-    over_same_tests m (weight_in bs) (open_ordering_in chart h p) (open_ordering_in chart h q) (λ u l. rw (k (get_or firsts u 0) (chart.ends.first u l), k (get_or seconds u 0) (chart.ends.second u l)) refl),
+    over_same_tests m (weight_in bs) (open_ordering_in chart h p) (open_ordering_in chart h q) (λ u l. rw (k (get_or firsts u 0) (e.first u l), k (get_or seconds u 0) (e.second u l)) refl),
   ) refl
 
   pub charge_fits : OpenFits chart h → (p : ℕ → Bool) → weight_with_orderings_in chart h p ≤ h.upper

@@ -20,7 +20,8 @@ use Rattle.half.specs.laws.Weights.{over_same, over_same_tests}
 use Rattle.half.specs.laws.Shown as H
 use Rattle.cells.proofs.laws.Charges.{same_weight_with_orderings}
 use Rattle.rules.specs.Results as R
-use Rattle.chart.specs.declared.chart.Chart.{Chart}
+use Rattle.graph.specs.Graph.{EndsAreSlots}
+use Rattle.chart.specs.Chart.{BySlot}
 use Rattle.forced.specs.declared.forcing.Forced.{Forced}
 use Rattle.cells.specs.declared.cells.Limit.{Limit}
 use Rattle.half.specs.declared.opened.Half.{Half}
@@ -38,8 +39,8 @@ same_cell false false l k e h = refl
 same_cell true false l k e h = absurd (subst T e tt)
 same_cell false true l k e h = absurd (subst T (sym e) tt)
 
-module _ (v : Subscription) (b : DecidedBySlot) (chart : Chart)
-    (shows : Shows v chart.option_count chart.ordering_count chart.firsts chart.seconds chart.rows) (weighs : Weighs v chart.option_count chart.ordering_count chart.weights chart.ordering_weights) where
+module _ (v : Subscription) (b : DecidedBySlot) (chart : BySlot)
+    (ends : EndsAreSlots chart.option_count chart.ordering_count chart.firsts chart.seconds) (shows : Shows v chart.option_count chart.ordering_count chart.firsts chart.seconds chart.rows) (weighs : Weighs v chart.option_count chart.ordering_count chart.weights chart.ordering_weights) where
   abbrev n : ℕ
   n = chart.option_count
 
@@ -90,17 +91,17 @@ module _ (v : Subscription) (b : DecidedBySlot) (chart : Chart)
       over_same n (weight_in ws) v.weight (open_option_in chart h p) (λ j. option_open s b j && p j) weight_is (λ j l. rw (option_open_is j l) refl),
       over_same m (weight_in bs) v.ordering_weight (open_ordering_in chart h p)
           (λ u. ordering_open s b u && ((option_open s b (v.first u) && p (v.first u)) || (option_open s b (v.second u) && p (v.second u)))) ordering_weight_is
-          (λ u l. rw (ordering_open_is u l, option_open_is (get_or firsts u 0) (chart.ends.first u l), option_open_is (get_or seconds u 0) (chart.ends.second u l), shows.first u l, shows.second u l) refl),
+          (λ u l. rw (ordering_open_is u l, option_open_is (get_or firsts u 0) (ends.first u l), option_open_is (get_or seconds u 0) (ends.second u l), shows.first u l, shows.second u l) refl),
     ) refl
 
     A_is : (i : ℕ) → i < n → weight_with_orderings_in chart h (clashes_in h.known i) ≡ A s b i
     unfolding A
-    A_is i l = same_weight_with_orderings chart h (clashes_in h.known i) (clash s b i) (λ j k. clash_is i j l k) ∙ charge_is (clash s b i)
+    A_is i l = same_weight_with_orderings chart h ends (clashes_in h.known i) (clash s b i) (λ j k. clash_is i j l k) ∙ charge_is (clash s b i)
 
     E_is : (u : ℕ) → u < m → weight_with_orderings_in chart h (λ j. clashes_in h.known (get_or firsts u 0) j || clashes_in h.known (get_or seconds u 0) j) ≡ E s b u
     unfolding E
-    E_is u l = same_weight_with_orderings chart h _ (λ j. clash s b (v.first u) j || clash s b (v.second u) j)
-        (λ j k. rw (clash_is (get_or firsts u 0) j (chart.ends.first u l) k, clash_is (get_or seconds u 0) j (chart.ends.second u l) k, shows.first u l, shows.second u l) refl)
+    E_is u l = same_weight_with_orderings chart h ends _ (λ j. clash s b (v.first u) j || clash s b (v.second u) j)
+        (λ j k. rw (clash_is (get_or firsts u 0) j (ends.first u l) k, clash_is (get_or seconds u 0) j (ends.second u l) k, shows.first u l, shows.second u l) refl)
         ∙ charge_is (λ j. clash s b (v.first u) j || clash s b (v.second u) j)
 
     -- The open options among {i} are i itself.

@@ -9,7 +9,7 @@ use Rattle.chart.specs.Arrays.{weight_in}
 use Rattle.half.specs.Weights.{largest_sum}
 use Rattle.half.specs.Half.{whole_weight, weight_of_sets, HalfDecidedAs}
 use Rattle.half.specs.laws.Weights.{over_apart}
-use Rattle.chart.specs.declared.chart.Chart.{Chart}
+use Rattle.chart.specs.Chart.{BySlot}
 use Rattle.forced.specs.declared.forcing.Forced.{Forced}
 
 -- What is dropped is not open.
@@ -19,12 +19,12 @@ open_apart false true c e t u = T_not true (subst T e u) tt
 open_apart true false c e t u = t
 open_apart false false c e t u = t
 
-pub dropped_fits : (chart : Chart) (p q : ℕ → Bool) → weight_of_sets chart p q ≤ whole_weight chart
+pub dropped_fits : (chart : BySlot) (p q : ℕ → Bool) → weight_of_sets chart p q ≤ whole_weight chart
 dropped_fits chart p q =
     let a = over_apart chart.option_count (weight_in chart.weights) p (λ _. false) (λ i l t u. u) in
     let b = over_apart chart.ordering_count (weight_in chart.ordering_weights) q (λ _. false) (λ i l t u. u) in omega arith
 
-module _ (chart : Chart) (f : Forced) where
+module _ (chart : BySlot) (f : Forced) where
   abbrev n : ℕ
   n = chart.option_count
 

@@ -13,11 +13,11 @@ use Rattle.forced.specs.Forced.{ForcedAs}
 use Rattle.chart.specs.Arrays.{weight_in, Weighs}
 use Rattle.half.specs.Half.{HalfDecidedAs}
 use Rattle.half.specs.laws.Weights.{over_same}
-use Rattle.chart.specs.declared.chart.Chart.{Chart}
+use Rattle.chart.specs.Chart.{BySlot}
 use Rattle.forced.specs.declared.forcing.Forced.{Forced}
 use Rattle.half.specs.declared.opened.Half.{Half}
 
-module _ (v : Subscription) (b : DecidedBySlot) (chart : Chart) (weighs : Weighs v chart.option_count chart.ordering_count chart.weights chart.ordering_weights) where
+module _ (v : Subscription) (b : DecidedBySlot) (chart : BySlot) (weighs : Weighs v chart.option_count chart.ordering_count chart.weights chart.ordering_weights) where
   abbrev n : ℕ
   n = chart.option_count
 

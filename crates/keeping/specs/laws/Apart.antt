@@ -1,13 +1,12 @@
 -- Sets that are apart stay so: forced decisions without a contradiction, and one open item more.
 use Rattle.std.specs.Prelude.{◌≡◌, Bool, not, ◌&&◌, cond, ◌⊎◌, ℕ, ◌-◌, ◌<◌, T, eqb}
-use Rattle.chart.specs.declared.chart.Chart.{Chart}
 use Rattle.std.proofs.Math.Path.{refl, subst}
 use Rattle.std.proofs.Common.{sym, ap, ◌∙◌, inl, inr, ltb-true, ltb-false, eqb→eq, ltb→lt}
 use Rattle.std.proofs.Math.Bool.{true, false}
 use Rattle.std.proofs.Math.Dec.{T_not, ltb}
 use Rattle.std.proofs.Props.{props}
 use mathlib.Core.Logic.{∥∥₁_elim}
-use Rattle.chart.specs.Chart.{ASheet}
+use Rattle.chart.specs.Chart.{BySlot, ASheet}
 use Rattle.rules.specs.Slots.{some_below}
 use Rattle.rules.specs.Subscription.{Subscription, subscription}
 use Rattle.rules.specs.Decisions.{DecidedBySlot, decided_by_slot}
@@ -35,7 +34,7 @@ with_cases row i j t = go (or_e (has row j) _ (subst T (has_with_slot row i j) t
     go (inl h) = inl h
     go (inr h) = inr (eqb→eq i j h)
 
-module _ (chart : Chart) (sheet : ASheet chart) (g : Given) (apart : Apart chart g) (f : Forced) (by : ForcedBy chart g f) (e : f.contradiction ≡ false) where
+module _ (chart : BySlot) (sheet : ASheet chart) (g : Given) (apart : Apart chart g) (f : Forced) (by : ForcedBy chart g f) (e : f.contradiction ≡ false) where
   abbrev v : Subscription
   v = subscription sheet.lines
 
@@ -61,13 +60,13 @@ module _ (chart : Chart) (sheet : ASheet chart) (g : Given) (apart : Apart chart
     dropped_orderings = λ u k. subst (λ z. u < z) sheet.show.orderings (holds_below fa.dropped_orderings u k).0;
   }
 
-pub forced_apart : (chart : Chart) (g : Given) → Apart chart g → (f : Forced) → ForcedBy chart g f → f.contradiction ≡ false → Apart chart (sets_of f)
-forced_apart chart g apart f by e = ∥∥₁_elim chart.of_a_sheet (hlevel props) (λ sheet. apart_on chart sheet g apart f by e)
+pub forced_apart : (chart : BySlot) → ∥ ASheet chart ∥₁ → (g : Given) → Apart chart g → (f : Forced) → ForcedBy chart g f → f.contradiction ≡ false → Apart chart (sets_of f)
+forced_apart chart of_a_sheet g apart f by e = ∥∥₁_elim of_a_sheet (hlevel props) (λ sheet. apart_on chart sheet g apart f by e)
 
 nothing_has : (i : ℕ) → T (has 0 i) → ⊥
 nothing_has i t = subst T (has_none i) t
 
-pub nothing_apart : (chart : Chart) → Apart chart nothing_given
+pub nothing_apart : (chart : BySlot) → Apart chart nothing_given
 nothing_apart chart = record {
   options = λ i t _. nothing_has i t;
   orderings = λ u t _. nothing_has u t;
@@ -93,7 +92,7 @@ module _ (row other k i : ℕ) (l : i < k) (free : has other i ≡ false) (apart
       go (inl w) = below j w
       go (inr e) = subst (λ z. z < k) e l
 
-module _ (chart : Chart) (g : Given) (apart : Apart chart g) (x : ℕ) (o : OpenItem chart g x) where
+module _ (chart : BySlot) (g : Given) (apart : Apart chart g) (x : ℕ) (o : OpenItem chart g x) where
   abbrev n : ℕ
   n = chart.option_count
 

@@ -1,6 +1,5 @@
 -- The sets that the search carries show its decision list, before and after forcing and with one item more decided.
 use Rattle.std.specs.Prelude.{◌≡◌, Bool, not, ◌&&◌, ◌||◌, cond, List, ◌∷◌, ◌++◌, take, drop, eqb}
-use Rattle.chart.specs.declared.chart.Chart.{Chart}
 use Rattle.std.proofs.Math.Path.{refl, sym, subst, ap}
 use Rattle.std.proofs.Common.{◌∙◌, take_at, drop_at, eqb→eq}
 use Rattle.std.proofs.Math.Bool.{true, false}
@@ -27,7 +26,7 @@ use Rattle.given.specs.Given.{Gives}
 use Rattle.forced.specs.Forced.{ForcedAs, ForcedBy}
 use Rattle.given.specs.declared.sets.Given.{Given}
 use Rattle.forced.specs.declared.forcing.Forced.{Forced}
-use Rattle.chart.specs.Chart.{ShowsSheet}
+use Rattle.chart.specs.Chart.{BySlot, ShowsSheet}
 use Rattle.keeping.specs.Sets.{decisions_of, chosen_list, Apart, OpenItem, place, sets_of, with_option_kept, with_option_dropped, with_ordering_kept, with_ordering_dropped, with_item_kept, with_item_dropped}
 
 not_has : (b : Bool) → (T b → ⊥) → b ≡ false
@@ -119,7 +118,7 @@ dropped_changes : (k kept dropped i : ℕ) → has kept i ≡ false → list_of 
 dropped_changes k kept dropped i e = list_of_same k _ _ (λ j l. sym (ap (λ x. decision_of (has kept j) x) (has_with_slot dropped i j)
     ∙ with_dropped i j (has kept j) (has dropped j) (λ q t. subst T (ap (has kept) (sym (eqb→eq i j q)) ∙ e) t)))
 
-module _ (chart : Chart) where
+module _ (chart : BySlot) where
   abbrev n : ℕ
   n = chart.option_count
 

@@ -26,7 +26,7 @@ use Rattle.rules.specs.Results as R'
 use Rattle.sheet.specs.declared.answer.Refusal.TheVariants.{NotRecorded, WrongDecisions}
 use Rattle.sheet.specs.declared.decision.Decision.{Decision}
 use Rattle.given.specs.declared.sets.Given.{Given}
-use Rattle.chart.specs.declared.chart.Chart.{Chart}
+use Rattle.chart.specs.Chart.{BySlot}
 use Rattle.sheet.specs.declared.sheet.Sheet.{Sheet}
 use Rattle.sheet.specs.declared.decision.Decisions.{Decisions}
 use Rattle.cells.specs.declared.cells.Limit.{Limit}
@@ -71,7 +71,7 @@ module _ (s : Lines) (l : List R.Decision) where
       go false = limited_shown
 
 -- ---- the public function
-module _ (s : Sheet) (d : Decisions) (e : is_recorded s ≡ true) (chart : Chart) (g : Given) (l : Limited) (charted : Charted s chart)
+module _ (s : Sheet) (d : Decisions) (e : is_recorded s ≡ true) (chart : BySlot) (g : Given) (l : Limited) (charted : Charted s chart)
     (gives : Gives (decided_as d) s.option_count s.ordering_count g)
     (by : LimitedBy chart g l) where
   abbrev k : ℕ

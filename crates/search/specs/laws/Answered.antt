@@ -1,6 +1,5 @@
 -- From the sets that the search leaves to what it returns, and from a chart to its record.
 use Rattle.std.specs.Prelude.{◌≡◌, refl, Bool, true, not, ◌||◌, ◌++◌, ℕ, ◌+◌, ◌<◌}
-use Rattle.chart.specs.declared.chart.Chart.{Chart}
 use Rattle.std.proofs.Math.Path.{sym, ap, subst}
 use Rattle.std.proofs.Common.{◌∙◌, arith, get_or-drop, drop_at}
 use Rattle.std.proofs.Math.Bool.{false}
@@ -16,7 +15,7 @@ use Rattle.given.specs.Given.{choice_of, undecided}
 use Rattle.given.specs.Filled.{filled}
 use Rattle.given.specs.laws.Filled.{filled_same}
 use Rattle.sheet.specs.Lines.{lines_of}
-use Rattle.chart.specs.Chart.{ShowsSheet}
+use Rattle.chart.specs.Chart.{BySlot, ShowsSheet}
 use Rattle.sheet.specs.declared.sheet.Sheet.{Sheet}
 use Rattle.rules.specs.Best.{AnswerTo}
 use Rattle.keeping.specs.Sets.{chosen_list}
@@ -54,7 +53,7 @@ answered_is s f =
     ) refl
 
 -- The chart's answer is the sheet's.
-pub answers_of : (s : Sheet) (tolerance : ℕ) (chart : Chart) → chart.option_count ≡ s.option_count → chart.ordering_count ≡ s.ordering_count → ShowsSheet (lines_of s) chart
+pub answers_of : (s : Sheet) (tolerance : ℕ) (chart : BySlot) → chart.option_count ≡ s.option_count → chart.ordering_count ≡ s.ordering_count → ShowsSheet (lines_of s) chart
     → (f : Found) → FoundBy chart tolerance f → {r : Searched} → r ≡ accepted f s.option_count s.ordering_count → Answers s tolerance r
 answers_of s tolerance chart options orderings shows f by e = (
   answer_in s.option_count s.ordering_count f,

@@ -1,6 +1,5 @@
 -- What a whole search left is an answer to the tolerance, for whatever sheet the chart shows.
 use Rattle.std.specs.Prelude.{◌≡◌, Bool, false, List, ◌∷◌, ◌++◌, ℕ, zero, suc, ◌+◌, ◌-◌, min, Option, Some, None}
-use Rattle.chart.specs.declared.chart.Chart.{Chart}
 use Rattle.std.proofs.Math.Path.{refl}
 use Rattle.std.proofs.Common.{sym, subst, ap, ◌∙◌}
 use native.Mathlib.Omega.{arith}
@@ -19,7 +18,7 @@ use Rattle.rules.specs.laws.search.Answers.{floor_pass_answers}
 use Rattle.rows.specs.Bits.{has}
 use Rattle.rows.specs.laws.Bits.{has_none}
 use Rattle.given.specs.declared.sets.Given.{Given}
-use Rattle.chart.specs.Chart.{ShowsSheet}
+use Rattle.chart.specs.Chart.{BySlot, ShowsSheet}
 use Rattle.keeping.specs.Sets.{decisions_of, chosen_list, nothing_given}
 use Rattle.value.specs.Value.{BoundsAs}
 use Rattle.value.specs.laws.Whole.{fresh}
@@ -48,7 +47,7 @@ nothing_chosen n m = ap (λ l. l ++ list_of m (has 0)) (alone n) ∙ ap (λ l. n
     together (suc n) = let q : suc (n + m) ≡ suc n + m = omega arith in ap (λ l. false ∷ l) (together n) ∙ ap none_kept q
 
 -- ---- what the search left is an answer
-module _ (chart : Chart) (tolerance : ℕ) (bounds : Bounds) (bounded : BoundsAs chart tolerance bounds)
+module _ (chart : BySlot) (tolerance : ℕ) (bounds : Bounds) (bounded : BoundsAs chart tolerance bounds)
     (g : Given) (eg : g ≡ nothing_given) (a b : SoFar) (ea : a ≡ nothing_found bounds.floor) (done : Branched chart tolerance bounds.ceiling g a b) where
   abbrev n : ℕ
   n = chart.option_count

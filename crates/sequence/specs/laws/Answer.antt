@@ -23,7 +23,7 @@ use Rattle.subscription.specs.laws.Charted.{counted_is}
 use Rattle.rules.specs.Decisions as R
 use Rattle.rules.specs.laws.Decisions.{just_the_kept, just_the_kept_at, take_just_the_kept, drop_just_the_kept, length_just_the_kept, full_choice_is}
 use Rattle.given.specs.declared.sets.Given.{Given}
-use Rattle.chart.specs.declared.chart.Chart.{Chart}
+use Rattle.chart.specs.Chart.{BySlot}
 use Rattle.sheet.specs.declared.count.Number.{Number}
 use Rattle.sheet.specs.declared.answer.Refusal.TheVariants.{NotRecorded, WrongDecisions, NotConsistent}
 use Rattle.sheet.specs.declared.sheet.Sheet.{Sheet}
@@ -83,7 +83,7 @@ sequence_open_within s d e f g = rw (e, f, g) refl
 
 module _ (s : Sheet) (d : Decisions) (e : is_recorded s ≡ true)
     (past : decided_past d s.option_count s.ordering_count ≡ false) (open_items : open_within d s.option_count s.ordering_count ≡ false)
-    (chart : Chart) (g : Given) (p : Option (List Number)) (charted : Charted s chart)
+    (chart : BySlot) (g : Given) (p : Option (List Number)) (charted : Charted s chart)
     (gives : Gives (decided_as d) s.option_count s.ordering_count g)
     (by : PlacedBy chart s.numbers g p) where
   abbrev n : ℕ

@@ -24,11 +24,11 @@ use Rattle.sequence.specs.Padded.{places_of}
 use Rattle.sequence.specs.laws.Padded.{written_padded}
 use Rattle.sequence.specs.Sequenced.{is_consistent_as, sequence_as, placed_as, Keeps, PlacedBy}
 use Rattle.sequence.specs.laws.Same.{numbers_same, few_numbers}
-use Rattle.chart.specs.declared.chart.Chart.{Chart}
+use Rattle.chart.specs.Chart.{BySlot}
 use Rattle.given.specs.declared.sets.Given.{Given}
 use Rattle.sheet.specs.declared.count.Number.{Number}
 
-module _ (chart : Chart) (numbers : List ℕ) (g : Given) (between edges paths : List ℕ)
+module _ (chart : BySlot) (numbers : List ℕ) (g : Given) (ends : EndsAreSlots chart.option_count chart.ordering_count chart.firsts chart.seconds) (between edges paths : List ℕ)
     (is_between : BetweenKept chart.rows g.kept chart.option_count between)
     (is_edges : WithOrderings between g.kept_orderings chart.firsts chart.seconds chart.ordering_count edges)
     (is_paths : JoinedThroughAll edges g.kept chart.option_count chart.option_count paths) where
@@ -46,9 +46,6 @@ module _ (chart : Chart) (numbers : List ℕ) (g : Given) (between edges paths :
 
   abbrev rows : List ℕ
   rows = chart.rows
-
-  abbrev ends : EndsAreSlots chart.option_count chart.ordering_count chart.firsts chart.seconds
-  ends = chart.ends
 
   module _ (v : Subscription) (c : KeptBySlot) (shows : Shows v n m firsts seconds rows) (numbered : (i : ℕ) → i < n → v.number i ≡ get_or numbers i 0) (keeps : Keeps c n m g) where
     abbrev s : Subscription

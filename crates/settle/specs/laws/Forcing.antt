@@ -1,6 +1,5 @@
 -- What forced decisions come to: an end, or decisions that are left.
 use Rattle.std.specs.Prelude.{◌≡◌, Bool, true, false, not, List, ℕ, ◌-◌, ◌≤◌, ◌<◌, length, T}
-use Rattle.chart.specs.declared.chart.Chart.{Chart}
 use Rattle.std.proofs.Common.{sym, subst, ap, ◌∙◌, T_not}
 use native.Mathlib.Omega.{arith}
 use Rattle.std.proofs.Props.{props}
@@ -26,14 +25,14 @@ use Rattle.half.specs.laws.Shown.{K_is, M_less_D_is}
 use Rattle.given.specs.declared.sets.Given.{Given}
 use Rattle.forced.specs.declared.forcing.Forced.{Forced}
 use Rattle.half.specs.declared.opened.Half.{Half}
-use Rattle.chart.specs.Chart.{ShowsSheet}
+use Rattle.chart.specs.Chart.{BySlot, ShowsSheet, ASheet}
 use Rattle.keeping.specs.Sets.{decisions_of, Apart, sets_of}
 use Rattle.settle.specs.Settled.{LeftOf, NothingWorth, left_with}
 use Rattle.keeping.specs.laws.Shown.{size_of, counted_is, forced_as, forced_shown}
 use Rattle.keeping.specs.laws.Apart.{forced_apart}
 use Rattle.settle.specs.declared.settling.Settled.{Settled}
 
-module _ (chart : Chart) (want : ℕ) (g : Given) (apart : Apart chart g) (f : Forced) (by : ForcedBy chart g f) where
+module _ (chart : BySlot) (want : ℕ) (g : Given) (apart : Apart chart g) (f : Forced) (by : ForcedBy chart g f) where
   abbrev n : ℕ
   n = chart.option_count
 
@@ -85,12 +84,12 @@ module _ (chart : Chart) (want : ℕ) (g : Given) (apart : Apart chart g) (f : F
     limit_settles l = λ s sh r ok ag. let k = upper_holds s sh h half r ok ag in omega arith
 
     -- ---- the forced decisions are left
-    pub forced_settles : LeftOf chart want g (left_with (sets_of f) h)
-    forced_settles = record {
-      apart = forced_apart chart g apart f by e;
+    pub forced_settles : ∥ ASheet chart ∥₁ → LeftOf chart want g (left_with (sets_of f) h)
+    forced_settles of_a_sheet = record {
+      apart = forced_apart chart of_a_sheet g apart f by e;
       options = half.options;
       orderings = half.orderings;
-      no_more_open = ∥∥₁_elim chart.of_a_sheet (hlevel props) (λ a. let s = a.lines in let sh = a.show in subst (λ z. open_items z ≤ open_items d) (forced_shown chart s sh g apart f by) (forcing_opens_nothing s sh.proper d (size s sh) (fine s sh e)));
+      no_more_open = ∥∥₁_elim of_a_sheet (hlevel props) (λ a. let s = a.lines in let sh = a.show in subst (λ z. open_items z ≤ open_items d) (forced_shown chart s sh g apart f by) (forcing_opens_nothing s sh.proper d (size s sh) (fine s sh e)));
       small = half.roomy.lower;
       reduces = λ s sh. subst (Reduces (value_of s) (ConsistentRelaxation s) 0 want d) (forced_shown chart s sh g apart f by)
           (reduces_forced (value_of s) (ConsistentRelaxation s) 0 want d (forced s d) (forced_agrees s sh.proper d (size s sh) (fine s sh e)) (agrees_with_forced s sh.proper d (size s sh)));
@@ -98,5 +97,5 @@ module _ (chart : Chart) (want : ℕ) (g : Given) (apart : Apart chart g) (f : F
       worth = λ s sh. ap (λ z. value_of s (just_the_kept z)) (sym (forced_shown chart s sh g apart f by)) ∙ least_is_worth_K s sh.proper d (size s sh) (fine s sh e) ∙ sym (lower_is s sh h half);
     }
 
-    pub forced_are_left : (left : Given) → left ≡ sets_of f → (x : Settled) → x ≡ left_with left h → LeftOf chart want g x
-    forced_are_left left sets x is = subst (LeftOf chart want g) (sym (is ∙ ap (λ z. left_with z h) sets)) forced_settles
+    pub forced_are_left : ∥ ASheet chart ∥₁ → (left : Given) → left ≡ sets_of f → (x : Settled) → x ≡ left_with left h → LeftOf chart want g x
+    forced_are_left of_a_sheet left sets x is = subst (LeftOf chart want g) (sym (is ∙ ap (λ z. left_with z h) sets)) (forced_settles of_a_sheet)

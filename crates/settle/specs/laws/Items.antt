@@ -1,6 +1,6 @@
 -- The item that is taken up next is open; with it kept or dropped fewer items are open, and the sets stay apart.
 use Rattle.std.specs.Prelude.{◌≡◌, refl, Bool, true, false, not, ◌||◌, List, ℕ, ◌-◌, ◌<◌, get_or, T, Some, None}
-use Rattle.chart.specs.declared.chart.Chart.{Chart}
+use Rattle.chart.specs.Chart.{BySlot}
 use Rattle.std.proofs.Common.{sym, subst, ap, ◌∙◌, arith}
 use Rattle.rules.specs.Decisions.{Decision, Open, Kept, Dropped, is_open, open_items}
 use Rattle.rules.specs.laws.Decisions.{one_item_less}
@@ -20,7 +20,7 @@ neither true b e = absurd (subst T (sym e) tt)
 neither false true e = absurd (subst T (sym e) tt)
 neither false false e = (refl, refl)
 
-module _ {chart : Chart} {want : ℕ} {g : Given} (x : Settled) (left : LeftOf chart want g x) where
+module _ {chart : BySlot} {want : ℕ} {g : Given} (x : Settled) (left : LeftOf chart want g x) where
   abbrev n : ℕ
   n = chart.option_count
 

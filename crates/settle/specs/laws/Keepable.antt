@@ -1,6 +1,5 @@
 -- What the code keeps beside the forced items may be kept, on every sheet that the chart shows.
 use Rattle.std.specs.Prelude.{◌≡◌, refl, Bool, not, ◌||◌, ◌⊎◌, List, ℕ, ◌+◌, ◌-◌, ◌≤◌, ◌<◌, T}
-use Rattle.chart.specs.declared.chart.Chart.{Chart}
 use Rattle.std.proofs.Math.Path.{sym, ap}
 use Rattle.std.proofs.Common.{subst, ◌∙◌, inl, inr}
 use Rattle.std.proofs.Math.Bool.{true, false, cond}
@@ -26,7 +25,7 @@ use Rattle.graph.specs.Shown.{counted}
 use Rattle.forced.specs.Forced.{ForcedAs, ForcedBy}
 use Rattle.half.specs.Half.{HalfDecidedAs}
 use Rattle.numbered.specs.Items.{numbered, Named}
-use Rattle.residual.specs.Left.{residual_of}
+use Rattle.residual.specs.Left.{rest, residual_of}
 use Rattle.numbered.specs.laws.Items.{numbered_option, numbered_ordering}
 use Rattle.numbered.specs.Shown.{ShowsKnown}
 use Rattle.numbered.specs.laws.Items.{shows_known}
@@ -40,7 +39,7 @@ use Rattle.given.specs.declared.sets.Given.{Given}
 use Rattle.forced.specs.declared.forcing.Forced.{Forced}
 use Rattle.half.specs.declared.opened.Half.{Half}
 use Rattle.bound.specs.declared.charging.Charged.{Charged}
-use Rattle.chart.specs.Chart.{ShowsSheet}
+use Rattle.chart.specs.Chart.{BySlot, Known, ShowsSheet}
 use Rattle.keeping.specs.Sets.{decisions_of, Apart, sets_of}
 use Rattle.keeping.specs.Keeping.{MayKeep, needed, loose, KeptMore}
 use Rattle.keeping.specs.laws.Shown.{size_of, counted_is, forced_as, forced_shown, option_stands, ordering_stands}
@@ -58,7 +57,7 @@ has_it false t = absurd t
 turned : {known after : List ℕ} {n : ℕ} → n ≤ 32 → C.Transposed known n n after → Transposed known after n
 turned {known} {after} {n} few w = record { at = λ p q l k. w.at q p (omega arith) ∙ rw (lt-ltb q n k, lt-ltb p n l) refl }
 
-module _ (chart : Chart) (want : ℕ) (g : Given) (apart : Apart chart g) (f : Forced) (by : ForcedBy chart g f)
+module _ (chart : BySlot) (known : Known chart) (want : ℕ) (g : Given) (apart : Apart chart g) (f : Forced) (by : ForcedBy chart g f)
     (h : Half) (half : HalfDecidedAs chart f h) (fine : f.contradiction ≡ false) (c : Charged) (bounded : BoundedAs chart h.known h.open_options h.open_orderings c) where
   abbrev n : ℕ
   n = chart.option_count
@@ -84,22 +83,22 @@ module _ (chart : Chart) (want : ℕ) (g : Given) (apart : Apart chart g) (f : F
     no_contradiction_here = subst (λ z. T (not z)) (sym (sym (forced_as chart s sh g apart f by).contradicts ∙ fine)) tt
 
     shows : ShowsKnown (subscription s) b₀ n m h.known chart.firsts chart.seconds
-    shows = subst (λ z. ShowsKnown (subscription s) b₀ n m z chart.firsts chart.seconds) (sym half.knows) (shows_known chart.ends sh.shows fa.known)
+    shows = subst (λ z. ShowsKnown (subscription s) b₀ n m z chart.firsts chart.seconds) (sym half.knows) (shows_known known.ends sh.shows fa.known)
 
     -- it is charged on this sheet
-    pub charged_here : R.Charged (subscription s) b₀ c.charged (residual_of c.left)
-    charged_here = subst (λ z. R.Charged z b₀ c.charged (residual_of c.left)) same
+    pub charged_here : R.Charged (subscription s) b₀ c.charged (residual_of (rest c.left))
+    charged_here = subst (λ z. R.Charged z b₀ c.charged (residual_of (rest c.left))) same
         (bounded.charged (subscription s) b₀ shows sh.weighs (open_options_hold (subscription s) b₀ chart f h fa half) (open_orderings_hold (subscription s) b₀ chart f h fa half))
 
     -- so no relaxation that agrees is worth more than what is left of the limit
     pub charged_limit : (r : List Bool) → ConsistentRelaxation s r → Agrees d₀ r → value_of s r + c.charged ≤ h.upper
     charged_limit r ok ag = let a = size chart want g apart f by s sh in
-        let p = charged_limit_holds s sh.proper 0 d₀ a c.charged (residual_of c.left) charged_here r ok ag in
+        let p = charged_limit_holds s sh.proper 0 d₀ a c.charged (residual_of (rest c.left)) charged_here r ok ag in
         let q = upper_is chart want g apart f by s sh h half in omega arith
 
   -- ---- what is kept besides
   module _ (after : List ℕ) (turn : C.Transposed h.known n n after) (low : want + c.charged ≤ h.upper)
-      (spare : ℕ) (es : spare ≡ h.upper - want - c.charged) (k : Given) (kept : KeptMore chart h after c.left spare (sets_of f) k) where
+      (spare : ℕ) (es : spare ≡ h.upper - want - c.charged) (k : Given) (kept : KeptMore chart h after (rest c.left) spare (sets_of f) k) where
     abbrev d : List Decision
     d = decisions_of chart g
 
@@ -107,7 +106,7 @@ module _ (chart : Chart) (want : ℕ) (g : Given) (apart : Apart chart g) (f : F
     e = decisions_of chart k
 
     abbrev r : Residual
-    r = residual_of c.left
+    r = residual_of (rest c.left)
 
     module _ (s : Lines) (sh : ShowsSheet s chart) where
       abbrev v : Subscription
@@ -123,14 +122,14 @@ module _ (chart : Chart) (want : ℕ) (g : Given) (apart : Apart chart g) (f : F
       opens = record { options = open_options_hold v b chart f h (fa s sh) half; orderings = open_orderings_hold v b chart f h (fa s sh) half; begin = kept.begin; end = kept.end }
 
       -- what may be kept by the arrays may be kept on the sheet
-      keepable : (x : ℕ) → Named n m x → T (L.item_open w b (numbered x)) → MayKeep chart h.known after h.open_options kept.begins kept.ends c.left spare x
+      keepable : (x : ℕ) → Named n m x → T (L.item_open w b (numbered x)) → MayKeep chart h.known after h.open_options kept.begins kept.ends (rest c.left) spare x
           → Keepable s sh.proper 0 d (size chart want g apart f by s sh) want (numbered x)
       keepable x named o (needed l) = K.needed c.charged r (charged_here s sh)
           (let p = held_same v b n m h.known chart.firsts chart.seconds (shows s sh) r (numbered x) ∙ ap (λ z. held z r (numbered x)) (same s sh) in
           let q = upper_is chart want g apart f by s sh h half in
           let fits = charged_fits s sh.proper 0 d (size chart want g apart f by s sh) (no_contradiction_here s sh) c.charged r (charged_here s sh) in omega arith)
       keepable x named o (loose y) = K.loose_item (subst (λ z. T (L.loose z b (numbered x))) (same s sh)
-          (loose_told v b n m h.known chart.firsts chart.seconds (shows s sh) h.open_options h.open_orderings kept.begins kept.ends opens x named after (turned chart.ends.few_options turn) o y))
+          (loose_told v b n m h.known chart.firsts chart.seconds (shows s sh) h.open_options h.open_orderings kept.begins kept.ends opens x named after (turned known.ends.few_options turn) o y))
 
       -- ---- place by place
       -- the forced decisions, by the sets
@@ -175,16 +174,16 @@ module _ (chart : Chart) (want : ℕ) (g : Given) (apart : Apart chart g) (f : F
         option_place l = at_place p (has f.kept p) (has k.kept p) (has f.dropped p) (numbered p)
             (option_stands chart k p l ∙ ap (λ z. decision_of (has k.kept p) (has z p)) kept.dropped)
             (ap (λ z. get_or z p Open) forced_is ∙ option_stands chart (sets_of f) p l)
-            (ap (λ z. cond z (option p) (ordering (p - length s.options))) (lt-ltb p (length s.options) (let q = sh.options in omega arith)) ∙ sym (numbered_option p (let q = chart.ends.few_options in omega arith)))
+            (ap (λ z. cond z (option p) (ordering (p - length s.options))) (lt-ltb p (length s.options) (let q = sh.options in omega arith)) ∙ sym (numbered_option p (let q = known.ends.few_options in omega arith)))
             (kept.option.keeps p) (λ t. go (kept.option.only p t))
           where
             named : Named n m p
-            named = record { option = λ _. l; ordering = λ k. (let q = chart.ends.few_options in absurd (omega arith)) }
+            named = record { option = λ _. l; ordering = λ k. (let q = known.ends.few_options in absurd (omega arith)) }
 
-            go : T (has f.kept p) ⊎ ((p < n) × T (has h.open_options p) × MayKeep chart h.known after h.open_options kept.begins kept.ends c.left spare p)
+            go : T (has f.kept p) ⊎ ((p < n) × T (has h.open_options p) × MayKeep chart h.known after h.open_options kept.begins kept.ends (rest c.left) spare p)
                 → T (has f.kept p) ⊎ (T (is_open (decision_of (has f.kept p) (has f.dropped p))) × Keepable s sh.proper 0 d (size chart want g apart f by s sh) want (numbered p))
             go (inl t) = inl t
-            go (inr (_, t, y)) = inr (option_is_open p l t, keepable p named (subst (λ z. T (L.item_open w b z)) (sym (numbered_option p (let q = chart.ends.few_options in omega arith))) (subst T (holds_at opens.options p l) t)) y)
+            go (inr (_, t, y)) = inr (option_is_open p l t, keepable p named (subst (λ z. T (L.item_open w b z)) (sym (numbered_option p (let q = known.ends.few_options in omega arith))) (subst T (holds_at opens.options p l) t)) y)
 
         -- an ordering
         ordering_place : (u : ℕ) → u < m → p ≡ n + u → AsForcedOrKept s sh.proper 0 d (size chart want g apart f by s sh) want e p
@@ -198,7 +197,7 @@ module _ (chart : Chart) (want : ℕ) (g : Given) (apart : Apart chart g) (f : F
             named : Named n m (32 + u)
             named = record { option = λ k. absurd (omega arith); ordering = λ _. (let y : 32 + u - 32 ≡ u = omega arith in omega arith) }
 
-            go : T (has f.kept_orderings u) ⊎ ((u < m) × T (has h.open_orderings u) × MayKeep chart h.known after h.open_options kept.begins kept.ends c.left spare (32 + u))
+            go : T (has f.kept_orderings u) ⊎ ((u < m) × T (has h.open_orderings u) × MayKeep chart h.known after h.open_options kept.begins kept.ends (rest c.left) spare (32 + u))
                 → T (has f.kept_orderings u) ⊎ (T (is_open (decision_of (has f.kept_orderings u) (has f.dropped_orderings u))) × Keepable s sh.proper 0 d (size chart want g apart f by s sh) want (numbered (32 + u)))
             go (inl t) = inl t
             go (inr (_, t, y)) = inr (ordering_is_open u l t, keepable (32 + u) named (subst (λ z. T (L.item_open w b z)) (ap ordering (let y : u ≡ 32 + u - 32 = omega arith in y) ∙ sym (numbered_ordering (32 + u) (omega arith))) (subst T (holds_at opens.orderings u l) t)) y)

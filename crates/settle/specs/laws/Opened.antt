@@ -8,13 +8,13 @@ use Rattle.rules.specs.Limits.{option_open, ordering_open}
 use Rattle.rows.specs.Sets.{Holds, Table}
 use Rattle.rows.specs.laws.Sets.{holds_at, holds_same}
 use Rattle.graph.specs.Shown.{counted}
-use Rattle.chart.specs.declared.chart.Chart.{Chart}
+use Rattle.chart.specs.Chart.{BySlot}
 use Rattle.forced.specs.Forced.{ForcedAs}
 use Rattle.forced.specs.declared.forcing.Forced.{Forced}
 use Rattle.half.specs.Half.{HalfDecidedAs}
 use Rattle.half.specs.declared.opened.Half.{Half}
 
-module _ (v : Subscription) (d : DecidedBySlot) (chart : Chart) (f : Forced) (h : Half) (forces : ForcedAs (counted chart.option_count chart.ordering_count v) d f) (half : HalfDecidedAs chart f h) where
+module _ (v : Subscription) (d : DecidedBySlot) (chart : BySlot) (f : Forced) (h : Half) (forces : ForcedAs (counted chart.option_count chart.ordering_count v) d f) (half : HalfDecidedAs chart f h) where
   pub open_options_hold : Holds h.open_options chart.option_count (option_open (counted chart.option_count chart.ordering_count v) d)
   open_options_hold = holds_same half.options (λ i l. rw (holds_at forces.kept i l, holds_at forces.dropped i l) refl)
 

@@ -4,6 +4,7 @@ use Rattle.std.proofs.Common.{subst}
 use Rattle.rules.specs.Subscription.{subscription}
 use Rattle.graph.specs.Graph.{EndsAreSlots}
 use Rattle.graph.specs.Shown.{Shows}
+use Rattle.chart.specs.Chart.{by_slot}
 use Rattle.chart.specs.declared.chart.Chart.{Chart}
 use Rattle.slots.specs.Slots.{SlotsOf}
 use Rattle.catalogue.specs.Catalogue.{SaysCatalogue}
@@ -24,7 +25,7 @@ module _ (s : Sheet) (R : Recorded s) (rows firsts seconds : List ℕ)
     shows = (show_lines s R rows firsts seconds says is_firsts is_seconds).shows;
   }
 
-pub shown_in_chart : (s : Sheet) (chart : Chart) → Charted s chart → ShownBy s chart.rows chart.firsts chart.seconds
+pub shown_in_chart : (s : Sheet) (chart : Chart) → Charted s (by_slot chart) → ShownBy s chart.rows chart.firsts chart.seconds
 shown_in_chart s chart charted = record {
   recorded = charted.recorded;
   ends = subst (λ k. EndsAreSlots k s.ordering_count chart.firsts chart.seconds) charted.options (subst (λ k. EndsAreSlots chart.option_count k chart.firsts chart.seconds) charted.orderings chart.ends);

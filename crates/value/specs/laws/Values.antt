@@ -1,6 +1,5 @@
 -- Each way out of the dive and of the pass for the value keeps its promise; what they come to for the whole sheet.
 use Rattle.std.specs.Prelude.{◌≡◌, Bool, true, false, not, List, ℕ, suc, ◌+◌, ◌≤◌, ◌<◌, max, T, leb, Some, None}
-use Rattle.chart.specs.declared.chart.Chart.{Chart}
 use Rattle.std.proofs.Common.{sym, subst, ap, ◌∙◌, arith, leb→le}
 use Rattle.std.proofs.Math.Dec.{nleb→lt}
 use Rattle.rules.specs.Lines.{Lines}
@@ -13,7 +12,7 @@ use Rattle.rules.specs.laws.search.Valued.{Valued, value_split, value_cut, value
 use Rattle.rules.specs.Subscription.{items}
 use Rattle.half.specs.Weights.{largest_sum}
 use Rattle.given.specs.declared.sets.Given.{Given}
-use Rattle.chart.specs.Chart.{ShowsSheet}
+use Rattle.chart.specs.Chart.{BySlot, ShowsSheet}
 use Rattle.keeping.specs.Sets.{decisions_of, place, with_item_kept, with_item_dropped}
 use Rattle.settle.specs.Settled.{LeftOf, NothingWorth}
 use Rattle.keeping.specs.laws.Shown.{item_kept_shown, item_dropped_shown}
@@ -23,7 +22,7 @@ use Rattle.value.specs.Value.{ValuedAs, Reached}
 use Rattle.settle.specs.laws.Items.{open_item, is_open_there, none_open}
 
 -- ---- the dive
-module _ (chart : Chart) where
+module _ (chart : BySlot) where
   -- with everything dropped the value is 0
   pub reached_nought : Reached chart 0
   reached_nought = record { small = omega arith; reached = λ s sh. (none_kept (items s), dropping_all_is_consistent s, dropping_all_is_worth_nothing s) }
@@ -32,7 +31,7 @@ module _ (chart : Chart) where
   reached_kept want g x left = record { small = left.small; reached = λ s sh. (just_the_kept (decisions_of chart x.given), left.consistent s sh, left.worth s sh) }
 
 -- ---- the pass for the value
-module _ (chart : Chart) (floor : ℕ) (small : floor ≤ largest_sum) (g : Given) where
+module _ (chart : BySlot) (floor : ℕ) (small : floor ≤ largest_sum) (g : Given) where
   abbrev n : ℕ
   n = chart.option_count
 

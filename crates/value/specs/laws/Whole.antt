@@ -1,6 +1,5 @@
 -- From nothing decided: the best value, the limit of the whole sheet, and what a search starts from, for whatever sheet the chart shows.
 use Rattle.std.specs.Prelude.{◌≡◌, refl, Bool, List, ◌∷◌, ◌++◌, ◌⊎◌, ℕ, zero, suc, ◌+◌}
-use Rattle.chart.specs.declared.chart.Chart.{Chart}
 use Rattle.std.proofs.Common.{sym, subst, ap, ◌∙◌, inl, inr, arith}
 use Rattle.rules.specs.Slots.{list_of}
 use Rattle.rules.specs.Lines.{Lines}
@@ -19,14 +18,14 @@ use Rattle.half.specs.Half.{HalfDecidedAs}
 use Rattle.given.specs.declared.sets.Given.{Given}
 use Rattle.forced.specs.declared.forcing.Forced.{Forced}
 use Rattle.half.specs.declared.opened.Half.{Half}
-use Rattle.chart.specs.Chart.{ShowsSheet}
+use Rattle.chart.specs.Chart.{BySlot, ShowsSheet}
 use Rattle.keeping.specs.Sets.{decisions_of, Apart, nothing_given}
 use Rattle.keeping.specs.laws.Apart.{nothing_apart}
 use Rattle.settle.specs.laws.Forcing.{upper_holds}
 use Rattle.value.specs.Value.{ValuedAs, Reached, Above, BoundsAs}
 
 -- ---- nothing is decided
-pub nothing_decided : (chart : Chart) → decisions_of chart nothing_given ≡ all_open (chart.option_count + chart.ordering_count)
+pub nothing_decided : (chart : BySlot) → decisions_of chart nothing_given ≡ all_open (chart.option_count + chart.ordering_count)
 unfolding decisions_of list_of
 nothing_decided chart = let n = chart.option_count in let m = chart.ordering_count in
     ap (λ l. l ++ list_of m (λ u. decision_of (has 0 u) (has 0 u))) (alone n) ∙ ap (λ l. all_open n ++ l) (alone m) ∙ together n m
@@ -42,7 +41,7 @@ nothing_decided chart = let n = chart.option_count in let m = chart.ordering_cou
     together zero m = let q : m ≡ 0 + m = omega arith in ap all_open q
     together (suc n) m = let q : suc (n + m) ≡ suc n + m = omega arith in ap (λ l. Open ∷ l) (together n m) ∙ ap all_open q
 
-module _ (chart : Chart) (g : Given) (eg : g ≡ nothing_given) where
+module _ (chart : BySlot) (g : Given) (eg : g ≡ nothing_given) where
   abbrev n : ℕ
   n = chart.option_count
 
@@ -74,7 +73,7 @@ module _ (chart : Chart) (g : Given) (eg : g ≡ nothing_given) where
   }
 
 -- ---- what a search starts from
-module _ (chart : Chart) (tolerance : ℕ) where
+module _ (chart : BySlot) (tolerance : ℕ) where
   pub bounds_at_nought : tolerance ≡ 0 → (w : ℕ) → Reached chart w → Above chart w → BoundsAs chart tolerance (record { floor = w; ceiling = w })
   bounds_at_nought z w r a = record { ceiling = a; small = a.small; floor = λ s sh. let (q, ok, e) = r.reached s sh in reached z q ok (omega arith) }
 

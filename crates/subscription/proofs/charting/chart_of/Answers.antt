@@ -1,4 +1,4 @@
--- The record's rule gives what each part asks for; the law `shown_by` puts the parts together.
+-- The record's rule gives what each part asks for, and what the chart knows of its arrays.
 use Rattle.std.proofs.Common.{refl}
 use Rattle.sheet.specs.Lines.{lines_of}
 use native.Mathlib.Omega.{arith}
@@ -45,6 +45,18 @@ slots_of-seconds-requires c =
     let L = R.lengths in
     (c.slot_table-table.ensures.size, k, omega arith)
 
+-- Above the invariant: what is said of a wrong count comes from here first.
+pub returns : goal.returns
+returns c =
+    let R = obeys (goal.at.returns c).Start in
+    let t = c.slot_table-table.ensures in
+    record {
+      recorded = R;
+      options = refl;
+      orderings = refl;
+      shows = show_lines c.args.s.now R _ _ _ (c.catalogue_rows-rows.ensures.of _ t) (c.slots_of-firsts.ensures.of _ _ t) (c.slots_of-seconds.ensures.of _ _ t);
+    }
+
 pub invariant_of-result : goal.invariant_of-result
 invariant_of-result c =
     let s = c.args.s.now in
@@ -57,15 +69,4 @@ invariant_of-result c =
       ends = ends s R _ _ _ says fs ss;
       has_weights = has_weights s R _ _ _ says fs ss;
       of_a_sheet = ∣ record { lines = lines_of s; show = show_lines s R _ _ _ says fs ss } ∣₁;
-    }
-
-pub returns : goal.returns
-returns c =
-    let R = obeys (goal.at.returns c).Start in
-    let t = c.slot_table-table.ensures in
-    record {
-      recorded = R;
-      options = refl;
-      orderings = refl;
-      shows = show_lines c.args.s.now R _ _ _ (c.catalogue_rows-rows.ensures.of _ t) (c.slots_of-firsts.ensures.of _ _ t) (c.slots_of-seconds.ensures.of _ _ t);
     }
